@@ -1,0 +1,28 @@
+-- Laws of tests. Assumes nothing.
+use mathlib.Core.Path.{_≡_, refl}
+use mathlib.Core.Bool.{Bool, true, false, _&&_}
+use Rattle.signer.specs.Choice.{if_then_else_}
+
+-- what holds of both outcomes, each under its test, holds of the one chosen
+pub if-elim : {A : Type 0} (P : A → Type 0) (b : Bool) (x y : A)
+    → (b ≡ true → P x) → (b ≡ false → P y) → P (if b then x else y)
+unfolding if_then_else_
+if-elim P true x y yes′ no′ = yes′ refl
+if-elim P false x y yes′ no′ = no′ refl
+
+pub if-true : {A : Type 0} (b : Bool) (x y : A) → b ≡ true → (if b then x else y) ≡ x
+unfolding if_then_else_
+if-true b x y h = rw h
+
+pub if-false : {A : Type 0} (b : Bool) (x y : A) → b ≡ false → (if b then x else y) ≡ y
+unfolding if_then_else_
+if-false b x y h = rw h
+
+pub and-left : (a b : Bool) → (a && b) ≡ true → a ≡ true
+and-left true b h = refl
+and-left false b h = h
+
+pub and-right : (a b : Bool) → (a && b) ≡ true → b ≡ true
+and-right true b h = h
+and-right false true h = refl
+and-right false false h = h

@@ -1,0 +1,100 @@
+-- Laws of identifiers and logs. Assumes nothing.
+use Prim.Native.Nat.{ℕ, zero, suc, _-_, _≤_, _<_}
+use mathlib.Core.Path.{_≡_, refl, ap, subst⁻¹, _∙_}
+use mathlib.Core.List.{List}
+use Rattle.signer.specs.FromOne.{nth, setNth}
+use mathlib.Core.Bool.{Bool, true, false, _&&_}
+use native.Mathlib.Omega.{arith}
+use native.Mathlib.Decide.{ℕ-discrete}
+use borrow.Author.Tests.{le-leb, leb-true, leb-false}
+use lib.Dec.{leb}
+use lib.ListN.{length, getD, set, length-replicate}
+use Rattle.signer.specs.Log.{isIdentifier, emptyLog, entryAt, withEntry}
+use Rattle.signer.specs.declared.log.Log.{Log}
+use Rattle.signer.proofs.ChoiceLaws.{and-left, and-right}
+use Rattle.signer.proofs.FromOneLaws.{
+  nth-index,
+  setNth-index,
+  nth-past,
+  setNth-past,
+  length-setNth,
+  nth-set-same,
+  nth-set-other,
+  nth-replicate,
+}
+
+-- an identifier is a number from 1 to the limit
+pub identifier-low : (limit i : ℕ) → isIdentifier limit i ≡ true → 1 ≤ i
+unfolding isIdentifier
+identifier-low limit i h = leb-true 1 i (and-left (leb 1 i) (leb i limit) h)
+
+pub identifier-high : (limit i : ℕ) → isIdentifier limit i ≡ true → i ≤ limit
+unfolding isIdentifier
+identifier-high limit i h = leb-true i limit (and-right (leb 1 i) (leb i limit) h)
+
+pub identifier-in : (limit i : ℕ) → 1 ≤ i → i ≤ limit → isIdentifier limit i ≡ true
+unfolding isIdentifier
+identifier-in limit i l h = rw (le-leb 1 i l) (le-leb i limit h)
+
+-- a number that is none is 0 or above the limit
+pub identifier-out : (limit i : ℕ) → isIdentifier limit i ≡ false → 1 ≤ i → limit < i
+unfolding isIdentifier
+identifier-out limit i h l = leb-false i limit (rw (le-leb 1 i l) at h)
+
+-- a log that has an entry for each identifier
+pub record Whole (limit : ℕ) (l : Log) : Type 0 where
+  pub whole : length (l .entries) ≡ limit
+
+pub empty-whole : (limit : ℕ) → Whole limit (emptyLog limit)
+unfolding emptyLog
+empty-whole limit = record { whole = length-replicate limit 0 }
+
+pub with-whole : (limit : ℕ) (l : Log) (i e : ℕ) → Whole limit l → Whole limit (withEntry l i e)
+unfolding withEntry
+with-whole limit l i e w = record { whole = length-setNth (l .entries) i e ∙ w .whole }
+
+pub entry-empty : (limit i : ℕ) → entryAt (emptyLog limit) i ≡ 0
+unfolding emptyLog entryAt
+entry-empty limit i = nth-replicate limit i 0
+
+pub entry-same : (limit : ℕ) (l : Log) (i e : ℕ) → Whole limit l → isIdentifier limit i ≡ true → entryAt (withEntry l i e) i ≡ e
+unfolding entryAt withEntry
+entry-same limit l i e w h =
+    nth-set-same (l .entries) i e 0 (identifier-low limit i h) (omega (arith, w .whole, identifier-high limit i h))
+
+pub entry-other : (l : Log) (i e j : ℕ) → (j ≡ i → ⊥) → entryAt (withEntry l i e) j ≡ entryAt l j
+unfolding entryAt withEntry
+entry-other l i e j h = nth-set-other (l .entries) j i e 0 h
+
+-- the two together: what holds of the new entry at i, and of the old one elsewhere, holds of every entry
+pub entry-elim : (limit : ℕ) (l : Log) (i e : ℕ) → Whole limit l → isIdentifier limit i ≡ true
+    → (P : ℕ → Type 0) (j : ℕ) → (j ≡ i → P e) → ((j ≡ i → ⊥) → P (entryAt l j)) → P (entryAt (withEntry l i e) j)
+entry-elim limit l i e w h P j here there = go (ℕ-discrete j i)
+  where
+    go : Dec (j ≡ i) → P (entryAt (withEntry l i e) j)
+    go (yes p) = subst⁻¹ P (ap (entryAt (withEntry l i e)) p ∙ entry-same limit l i e w h) (here p)
+    go (no p) = subst⁻¹ P (entry-other l i e j p) (there p)
+
+-- under a number that is no identifier a log says nothing and takes nothing
+pub entry-outside : (limit : ℕ) (l : Log) (i : ℕ) → Whole limit l → isIdentifier limit i ≡ false → entryAt l i ≡ 0
+unfolding entryAt nth
+entry-outside limit l zero w h = refl
+entry-outside limit l (suc i) w h =
+    nth-past (l .entries) (suc i) 0 (omega (arith, w .whole, identifier-out limit (suc i) h (omega arith)))
+
+pub with-outside : (limit : ℕ) (l : Log) (i e : ℕ) → Whole limit l → isIdentifier limit i ≡ false → withEntry l i e ≡ l
+unfolding withEntry setNth
+with-outside limit l zero e w h = refl
+with-outside limit l (suc i) e w h =
+    ap (λ (es : List ℕ). record { entries = es }) (setNth-past (l .entries) (suc i) e (omega (arith, w .whole, identifier-out limit (suc i) h (omega arith))))
+
+-- where an identifier's entry stands
+pub entry-index : (limit : ℕ) (l : Log) (i : ℕ) → isIdentifier limit i ≡ true → entryAt l i ≡ getD (l .entries) (i - 1) 0
+unfolding entryAt
+entry-index limit l i h = nth-index (l .entries) i 0 (identifier-low limit i h)
+
+pub with-index : (limit : ℕ) (l : Log) (i e : ℕ) → isIdentifier limit i ≡ true
+    → withEntry l i e ≡ record { entries = set (l .entries) (i - 1) e }
+unfolding withEntry
+with-index limit l i e h =
+    ap (λ (es : List ℕ). record { entries = es }) (setNth-index (l .entries) i e (identifier-low limit i h))

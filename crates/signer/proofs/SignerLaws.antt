@@ -1,0 +1,157 @@
+-- Laws of one request. Assumes nothing.
+use Prim.Native.Nat.{ℕ, suc, _≤_, _<_}
+use native.Mathlib.Omega.{arith}
+use mathlib.Core.Path.{_≡_, refl, ap, sym, _∙_}
+use mathlib.Core.Bool.{Bool, true, false}
+use mathlib.Core.Logic.{_⊎_, inl, inr, ⊎-elim}
+use borrow.Author.Tests.{ltb-true, lt-ltb}
+use lib.Dec.{ltb}
+use Rattle.signer.specs.Log.{isIdentifier, entryOf, entryAt, withEntry}
+use Rattle.signer.specs.Signer.{freshSigner, Signed, grants, sign}
+use Rattle.signer.specs.declared.signer.Signer.{Signer}
+use Rattle.signer.specs.declared.signer.Signing.{Signing}
+use Rattle.signer.proofs.ChoiceLaws.{if-elim, if-true, if-false, and-left, and-right}
+use Rattle.signer.proofs.LogLaws.{
+  Whole,
+  empty-whole,
+  with-whole,
+  entry-empty,
+  entry-same,
+  entry-other,
+  entry-elim,
+  identifier-low,
+  identifier-high,
+  identifier-in,
+}
+
+-- what a signer is after any requests from a fresh one: its log has a place for each identifier, and what
+-- is signed has an identifier of at most `last`
+pub record WellFormed (limit : ℕ) (s : Signer) : Type 0 where
+  pub whole : Whole limit (s .log)
+  pub capped : (i v : ℕ) → Signed s i v → i ≤ s .last .0
+
+-- a fresh signer has signed nothing
+pub fresh-unsigned : (limit i v : ℕ) → Signed (freshSigner limit) i v → ⊥
+unfolding freshSigner
+fresh-unsigned limit i v h = omega (arith, entry-empty limit i)
+
+pub fresh-wellformed : (limit : ℕ) → WellFormed limit (freshSigner limit)
+unfolding freshSigner
+fresh-wellformed limit =
+    record { whole = empty-whole limit; capped = λ i v h. absurd (fresh-unsigned limit i v h) }
+
+-- under one identifier stands at most one value
+pub signed-one : (s : Signer) (i v w : ℕ) → Signed s i v → Signed s i w → v ≡ w
+signed-one s i v w p q = omega arith
+
+-- the blank is a value like any other: where it is signed, something is
+pub blank-stands : (s : Signer) (i : ℕ) → Signed s i 0 → entryAt (s .log) i ≡ 0 → ⊥
+blank-stands s i p q = omega arith
+
+-- what is granted: an identifier above `last`
+module _ (limit : ℕ) (s : Signer) (i : ℕ) where
+  pub grants-identifier : grants limit s i ≡ true → isIdentifier limit i ≡ true
+  unfolding grants
+  grants-identifier h = and-left (isIdentifier limit i) (ltb (s .last .0) i) h
+
+  pub grants-above : grants limit s i ≡ true → s .last .0 < i
+  unfolding grants
+  grants-above h = ltb-true (s .last .0) i (and-right (isIdentifier limit i) (ltb (s .last .0) i) h)
+
+  pub above-grants : isIdentifier limit i ≡ true → s .last .0 < i → grants limit s i ≡ true
+  unfolding grants
+  above-grants h l = rw (h, lt-ltb (s .last .0) i l)
+
+module _ (limit : ℕ) (s : Signer) (i v : ℕ) where
+  -- the answer says whether the request was granted, whatever the value
+  pub sign-answer : sign limit s i v .signed ≡ grants limit s i
+  unfolding sign
+  sign-answer = if-elim (λ (o : Signing). o .signed ≡ grants limit s i) (grants limit s i) _ _ (λ h. sym h) (λ h. sym h)
+
+  -- refused: nothing changes
+  pub sign-refused : grants limit s i ≡ false → sign limit s i v .signer ≡ s
+  unfolding sign
+  sign-refused h = ap (λ (o : Signing). o .signer) (if-false (grants limit s i) _ _ h)
+
+  -- granted: `last` is the identifier
+  pub sign-last : grants limit s i ≡ true → sign limit s i v .signer .last .0 ≡ i
+  unfolding sign
+  sign-last h = ap (λ (o : Signing). o .signer .last .0) (if-true (grants limit s i) _ _ h)
+
+  -- `last` never falls
+  pub sign-rises : s .last .0 ≤ sign limit s i v .signer .last .0
+  unfolding sign
+  sign-rises =
+      if-elim
+      (λ (o : Signing). s .last .0 ≤ o .signer .last .0)
+      (grants limit s i)
+      _
+      _
+      (λ h. omega (arith, grants-above limit s i h))
+      (λ h. omega arith)
+
+  -- granted: the value stands under the identifier, the blank too
+  pub sign-stands : WellFormed limit s → grants limit s i ≡ true → Signed (sign limit s i v .signer) i v
+  unfolding sign
+  sign-stands w h =
+      ap (λ (o : Signing). entryAt (o .signer .log) i) (if-true (grants limit s i) _ _ h)
+      ∙ entry-same limit (s .log) i (entryOf v) (w .whole) (grants-identifier limit s i h)
+
+  -- granted or refused: what was signed stays
+  pub sign-keeps : WellFormed limit s → (j u : ℕ) → Signed s j u → Signed (sign limit s i v .signer) j u
+  unfolding sign
+  sign-keeps w j u h =
+      if-elim
+      (λ (o : Signing). Signed (o .signer) j u)
+      (grants limit s i)
+      _
+      _
+      (λ g. entry-other (s .log) i (entryOf v) j (λ e. omega (arith, w .capped j u h, grants-above limit s i g)) ∙ h)
+      (λ g. h)
+
+  -- and what is signed was so before, or was just granted
+  pub sign-only : WellFormed limit s → (j u : ℕ) → Signed (sign limit s i v .signer) j u
+      → Signed s j u ⊎ ((grants limit s i ≡ true) × (j ≡ i) × (u ≡ v))
+  unfolding sign
+  sign-only w j u =
+      if-elim
+      (λ (o : Signing). Signed (o .signer) j u → Signed s j u ⊎ ((grants limit s i ≡ true) × (j ≡ i) × (u ≡ v)))
+      (grants limit s i)
+      _
+      _
+      (λ g.
+      entry-elim
+      limit
+      (s .log)
+      i
+      (entryOf v)
+      (w .whole)
+      (grants-identifier limit s i g)
+      (λ (e : ℕ). e ≡ entryOf u → Signed s j u ⊎ ((grants limit s i ≡ true) × (j ≡ i) × (u ≡ v)))
+      j
+      (λ e h. inr (g, e, omega arith))
+      (λ e h. inl h))
+      (λ g h. inl h)
+
+  -- so a signer stays well-formed
+  sign-whole : Whole limit (s .log) → Whole limit (sign limit s i v .signer .log)
+  unfolding sign
+  sign-whole w =
+      if-elim
+      (λ (o : Signing). Whole limit (o .signer .log))
+      (grants limit s i)
+      _
+      _
+      (λ g. with-whole limit (s .log) i (entryOf v) w)
+      (λ g. w)
+
+  pub sign-wellformed : WellFormed limit s → WellFormed limit (sign limit s i v .signer)
+  sign-wellformed w =
+      record {
+        whole = sign-whole (w .whole);
+        capped = λ j u h.
+            ⊎-elim
+            (λ (p : Signed s j u). omega (arith, w .capped j u p, sign-rises))
+            (λ p. omega (arith, sign-last (p .0)))
+            (sign-only w j u h);
+      }

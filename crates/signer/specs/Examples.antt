@@ -1,0 +1,24 @@
+-- Document 01, "Bench examples".
+use Prim.Native.Nat.{ℕ}
+use mathlib.Core.Path.{_≡_, refl}
+use mathlib.Core.Bool.{Bool, true, false}
+use mathlib.Core.List.{List, [], _∷_, map}
+use Rattle.signer.specs.FromOne.{nth, setNth}
+use Rattle.signer.specs.Choice.{if_then_else_}
+use Rattle.signer.specs.Log.{identifiers, isIdentifier, emptyLog, withEntry}
+use Rattle.signer.specs.Signer.{Request, freshSigner, grants, sign, history}
+
+-- letter d: a fresh signer asked for 5, 3, 5, 6, whatever the values, signs, refuses, refuses, signs
+abbrev pub asked : ℕ → ℕ → ℕ → ℕ → List Request
+asked u v w x =
+    record { identifier = 5; value = u }
+    ∷ record { identifier = 3; value = v }
+    ∷ record { identifier = 5; value = w }
+    ∷ record { identifier = 6; value = x }
+    ∷ []
+
+pub letter-d : (u v w x : ℕ)
+    → map (λ (h : Request × Bool). h .1) (history identifiers (freshSigner identifiers) (asked u v w x))
+    ≡ true ∷ false ∷ false ∷ true ∷ []
+unfolding history sign if_then_else_ grants isIdentifier freshSigner
+letter-d u v w x = refl

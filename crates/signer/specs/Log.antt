@@ -1,0 +1,33 @@
+-- Document 01, "Words and sizes": identifiers, values, and what one speaker said under each identifier.
+-- A definition that depends on how many identifiers there are takes that number as `limit`.
+use Prim.Native.Nat.{ℕ, suc}
+use mathlib.Core.Bool.{Bool, _&&_}
+use lib.Dec.{leb}
+use lib.ListN.{replicate}
+use Rattle.signer.specs.FromOne.{nth, setNth}
+use Rattle.signer.specs.declared.log.Log.{Log}
+
+-- the highest identifier
+abbrev pub identifiers : ℕ
+identifiers = 64
+
+-- identifiers are the numbers from 1 to the highest
+unfoldable pub isIdentifier : ℕ → ℕ → Bool
+isIdentifier limit i = leb 1 i && leb i limit
+
+-- a log's entry for the value v, one more than v; so the blank (document 01's ⊥, value 0) has an entry of
+-- its own, and entry 0 is left to say that there is no statement
+abbrev pub entryOf : ℕ → ℕ
+entryOf v = suc v
+
+-- a speaker that has said nothing
+unfoldable pub emptyLog : ℕ → Log
+emptyLog limit = record { entries = replicate limit 0 }
+
+-- the entry under identifier i
+unfoldable pub entryAt : Log → ℕ → ℕ
+entryAt l i = nth (l .entries) i 0
+
+-- the same log with entry e under identifier i
+unfoldable pub withEntry : Log → ℕ → ℕ → Log
+withEntry l i e = record { entries = setNth (l .entries) i e }

@@ -1,0 +1,53 @@
+-- Document 01, "Signer". The machine's part first: a signer, a fresh one, and what a request does.
+use Prim.Native.Nat.{ℕ}
+use mathlib.Core.Path.{_≡_}
+use mathlib.Core.Bool.{Bool, true, false, _&&_}
+use mathlib.Core.List.{List, [], _∷_, List·Memᴰ}
+use lib.Dec.{ltb}
+use Rattle.signer.specs.Choice.{if_then_else_}
+use Rattle.signer.specs.Log.{entryOf, isIdentifier, emptyLog, entryAt, withEntry}
+use Rattle.signer.specs.declared.log.Log.{Log}
+use Rattle.signer.specs.declared.signer.Signer.{Signer}
+use Rattle.signer.specs.declared.signer.Signing.{Signing}
+
+-- a fresh signer: `last` is 0, and nothing is signed
+unfoldable pub freshSigner : ℕ → Signer
+freshSigner limit = record { last = record { 0 = 0 }; log = emptyLog limit }
+
+-- the signer has signed value v under identifier i
+abbrev pub Signed : Signer → ℕ → ℕ → Type 0
+Signed s i v = entryAt (s .log) i ≡ entryOf v
+
+-- it signs under i if i is an identifier above `last`, whatever the value
+unfoldable pub grants : ℕ → Signer → ℕ → Bool
+grants limit s i = isIdentifier limit i && ltb (s .last .0) i
+
+-- asked for identifier i and value v: granted, v stands under i and `last` becomes i;
+-- refused, nothing changes, so a refused request leaves no trace for a later one
+unfoldable pub sign : ℕ → Signer → ℕ → ℕ → Signing
+sign limit s i v =
+    if grants limit s i
+    then record { signer = record { last = record { 0 = i }; log = withEntry (s .log) i (entryOf v) }; signed = true }
+    else record { signer = s; signed = false }
+
+-- Then what a list of requests, oldest first, comes to.
+
+pub record Request : Type 0 where
+  pub identifier : ℕ
+  pub value : ℕ
+
+-- the signer after the list
+unfoldable pub after : ℕ → Signer → List Request → Signer
+after limit s [] = s
+after limit s (r ∷ rs) = after limit (sign limit s (r .identifier) (r .value) .signer) rs
+
+-- each request with its answer: true if it was signed
+unfoldable pub history : ℕ → Signer → List Request → List (Request × Bool)
+history limit s [] = []
+history limit s (r ∷ rs) =
+    (r, sign limit s (r .identifier) (r .value) .signed)
+    ∷ history limit (sign limit s (r .identifier) (r .value) .signer) rs
+
+-- a request for v under i is in the list, and was signed
+abbrev pub WasSigned : ℕ → Signer → List Request → ℕ → ℕ → Type 0
+WasSigned limit s rs i v = List·Memᴰ (record { identifier = i; value = v }, true) (history limit s rs)
