@@ -10,14 +10,6 @@ unfolding if_then_else_
 if-elim P true x y yes′ no′ = yes′ refl
 if-elim P false x y yes′ no′ = no′ refl
 
-pub if-true : {A : Type 0} (b : Bool) (x y : A) → b ≡ true → (if b then x else y) ≡ x
-unfolding if_then_else_
-if-true b x y h = rw h
-
-pub if-false : {A : Type 0} (b : Bool) (x y : A) → b ≡ false → (if b then x else y) ≡ y
-unfolding if_then_else_
-if-false b x y h = rw h
-
 pub and-left : (a b : Bool) → (a && b) ≡ true → a ≡ true
 and-left true b h = refl
 and-left false b h = h

@@ -1,8 +1,8 @@
 -- Laws of one request. Assumes nothing.
-use Prim.Native.Nat.{ℕ, suc, _≤_, _<_}
+use Prim.Native.Nat.{ℕ, _≤_, _<_}
 use native.Mathlib.Omega.{arith}
 use mathlib.Core.Path.{_≡_, refl, ap, sym, _∙_}
-use mathlib.Core.Bool.{Bool, true, false}
+use mathlib.Core.Bool.{true, false, true≢false}
 use mathlib.Core.Logic.{_⊎_, inl, inr, ⊎-elim}
 use borrow.Author.Tests.{ltb-true, lt-ltb}
 use lib.Dec.{ltb}
@@ -10,7 +10,7 @@ use Rattle.signer.specs.Log.{isIdentifier, entryOf, entryAt, withEntry}
 use Rattle.signer.specs.Signer.{freshSigner, Signed, grants, sign}
 use Rattle.signer.specs.declared.signer.Signer.{Signer}
 use Rattle.signer.specs.declared.signer.Signing.{Signing}
-use Rattle.signer.proofs.ChoiceLaws.{if-elim, if-true, if-false, and-left, and-right}
+use Rattle.signer.proofs.ChoiceLaws.{if-elim, and-left, and-right}
 use Rattle.signer.proofs.LogLaws.{
   Whole,
   empty-whole,
@@ -19,9 +19,6 @@ use Rattle.signer.proofs.LogLaws.{
   entry-same,
   entry-other,
   entry-elim,
-  identifier-low,
-  identifier-high,
-  identifier-in,
 }
 
 -- what a signer is after any requests from a fresh one: its log has a place for each identifier, and what
@@ -66,17 +63,19 @@ module _ (limit : ℕ) (s : Signer) (i v : ℕ) where
   -- the answer says whether the request was granted, whatever the value
   pub sign-answer : sign limit s i v .signed ≡ grants limit s i
   unfolding sign
-  sign-answer = if-elim (λ (o : Signing). o .signed ≡ grants limit s i) (grants limit s i) _ _ (λ h. sym h) (λ h. sym h)
+  sign-answer = if-elim (λ (o : Signing). o .signed ≡ grants limit s i) (grants limit s i) _ _ (λ g. sym g) (λ g. sym g)
 
   -- refused: nothing changes
   pub sign-refused : grants limit s i ≡ false → sign limit s i v .signer ≡ s
   unfolding sign
-  sign-refused h = ap (λ (o : Signing). o .signer) (if-false (grants limit s i) _ _ h)
+  sign-refused h =
+      if-elim (λ (o : Signing). o .signer ≡ s) (grants limit s i) _ _ (λ g. absurd (true≢false (sym g ∙ h))) (λ g. refl)
 
   -- granted: `last` is the identifier
   pub sign-last : grants limit s i ≡ true → sign limit s i v .signer .last .0 ≡ i
   unfolding sign
-  sign-last h = ap (λ (o : Signing). o .signer .last .0) (if-true (grants limit s i) _ _ h)
+  sign-last h =
+      if-elim (λ (o : Signing). o .signer .last .0 ≡ i) (grants limit s i) _ _ (λ g. refl) (λ g. absurd (true≢false (sym h ∙ g)))
 
   -- `last` never falls
   pub sign-rises : s .last .0 ≤ sign limit s i v .signer .last .0
@@ -87,15 +86,20 @@ module _ (limit : ℕ) (s : Signer) (i v : ℕ) where
       (grants limit s i)
       _
       _
-      (λ h. omega (arith, grants-above limit s i h))
-      (λ h. omega arith)
+      (λ g. omega (arith, grants-above limit s i g))
+      (λ g. omega arith)
 
   -- granted: the value stands under the identifier, the blank too
   pub sign-stands : WellFormed limit s → grants limit s i ≡ true → Signed (sign limit s i v .signer) i v
   unfolding sign
   sign-stands w h =
-      ap (λ (o : Signing). entryAt (o .signer .log) i) (if-true (grants limit s i) _ _ h)
-      ∙ entry-same limit (s .log) i (entryOf v) (w .whole) (grants-identifier limit s i h)
+      if-elim
+      (λ (o : Signing). Signed (o .signer) i v)
+      (grants limit s i)
+      _
+      _
+      (λ g. entry-same limit (s .log) i (entryOf v) (w .whole) (grants-identifier limit s i g))
+      (λ g. absurd (true≢false (sym h ∙ g)))
 
   -- granted or refused: what was signed stays
   pub sign-keeps : WellFormed limit s → (j u : ℕ) → Signed s j u → Signed (sign limit s i v .signer) j u
@@ -134,21 +138,18 @@ module _ (limit : ℕ) (s : Signer) (i v : ℕ) where
       (λ g h. inl h)
 
   -- so a signer stays well-formed
-  sign-whole : Whole limit (s .log) → Whole limit (sign limit s i v .signer .log)
-  unfolding sign
-  sign-whole w =
-      if-elim
-      (λ (o : Signing). Whole limit (o .signer .log))
-      (grants limit s i)
-      _
-      _
-      (λ g. with-whole limit (s .log) i (entryOf v) w)
-      (λ g. w)
-
   pub sign-wellformed : WellFormed limit s → WellFormed limit (sign limit s i v .signer)
+  unfolding sign
   sign-wellformed w =
       record {
-        whole = sign-whole (w .whole);
+        whole =
+            if-elim
+            (λ (o : Signing). Whole limit (o .signer .log))
+            (grants limit s i)
+            _
+            _
+            (λ g. with-whole limit (s .log) i (entryOf v) (w .whole))
+            (λ g. w .whole);
         capped = λ j u h.
             ⊎-elim
             (λ (p : Signed s j u). omega (arith, w .capped j u p, sign-rises))

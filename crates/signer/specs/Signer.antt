@@ -36,17 +36,18 @@ pub record Request : Type 0 where
   pub identifier : ℕ
   pub value : ℕ
 
+abbrev pub ask : ℕ → Signer → Request → Signing
+ask limit s r = sign limit s (r .identifier) (r .value)
+
 -- the signer after the list
 unfoldable pub after : ℕ → Signer → List Request → Signer
 after limit s [] = s
-after limit s (r ∷ rs) = after limit (sign limit s (r .identifier) (r .value) .signer) rs
+after limit s (r ∷ rs) = after limit (ask limit s r .signer) rs
 
 -- each request with its answer: true if it was signed
 unfoldable pub history : ℕ → Signer → List Request → List (Request × Bool)
 history limit s [] = []
-history limit s (r ∷ rs) =
-    (r, sign limit s (r .identifier) (r .value) .signed)
-    ∷ history limit (sign limit s (r .identifier) (r .value) .signer) rs
+history limit s (r ∷ rs) = (r, ask limit s r .signed) ∷ history limit (ask limit s r .signer) rs
 
 -- a request for v under i is in the list, and was signed
 abbrev pub WasSigned : ℕ → Signer → List Request → ℕ → ℕ → Type 0
