@@ -42,16 +42,16 @@ fn main() {
     s = ask(s, 6, 0);
     // numbers that are no identifiers, and the highest two
     s = ask(s, 0, 1);
-    s = ask(s, 65, 2);
+    s = ask(s, Identifier::LAST + 1, 2);
     s = ask(s, 255, 3);
-    s = ask(s, 63, 65535);
-    s = ask(s, 64, 0);
-    s = ask(s, 64, 4);
+    s = ask(s, Identifier::LAST - 1, 65535);
+    s = ask(s, Identifier::LAST, 0);
+    s = ask(s, Identifier::LAST, 4);
     show(s, 0);
     show(s, 3);
     show(s, 5);
     show(s, 6);
-    show(s, 63);
-    show(s, 64);
-    show(s, 65);
+    show(s, Identifier::LAST - 1);
+    show(s, Identifier::LAST);
+    show(s, Identifier::LAST + 1);
 }
