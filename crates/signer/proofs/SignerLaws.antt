@@ -41,7 +41,7 @@ fresh-wellformed limit =
 pub signed-one : (s : Signer) (i v w : ℕ) → Signed s i v → Signed s i w → v ≡ w
 signed-one s i v w p q = omega arith
 
--- the blank is a value like any other: where it is signed, something is
+-- the blank is a value like any other: where it is signed, the entry is not the one of no statement
 pub blank-stands : (s : Signer) (i : ℕ) → Signed s i 0 → entryAt (s .log) i ≡ 0 → ⊥
 blank-stands s i p q = omega arith
 
@@ -156,3 +156,7 @@ module _ (limit : ℕ) (s : Signer) (i v : ℕ) where
             (λ p. omega (arith, sign-last (p .0)))
             (sign-only w j u h);
       }
+
+-- whether a request is granted does not depend on its value
+pub value-alike : (limit : ℕ) (s : Signer) (i v u : ℕ) → sign limit s i v .signed ≡ sign limit s i u .signed
+value-alike limit s i v u = sign-answer limit s i v ∙ sym (sign-answer limit s i u)

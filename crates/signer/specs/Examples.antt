@@ -1,14 +1,13 @@
--- Document 01, "Bench examples".
+-- Document 01, "Bench examples": the one that is about a signer.
 use Prim.Native.Nat.{ℕ}
 use mathlib.Core.Path.{_≡_, refl}
 use mathlib.Core.Bool.{Bool, true, false}
 use mathlib.Core.List.{List, [], _∷_, map}
-use Rattle.signer.specs.FromOne.{nth, setNth}
 use Rattle.signer.specs.Choice.{if_then_else_}
-use Rattle.signer.specs.Log.{identifiers, isIdentifier, emptyLog, withEntry}
+use Rattle.signer.specs.Log.{identifiers, isIdentifier}
 use Rattle.signer.specs.Signer.{Request, freshSigner, grants, sign, history}
 
--- letter d: a fresh signer asked for 5, 3, 5, 6, whatever the values, signs, refuses, refuses, signs
+-- requests under 5, 3, 5 and 6, for any four values
 abbrev pub asked : ℕ → ℕ → ℕ → ℕ → List Request
 asked u v w x =
     record { identifier = 5; value = u }
@@ -17,6 +16,7 @@ asked u v w x =
     ∷ record { identifier = 6; value = x }
     ∷ []
 
+-- letter d: a fresh signer signs the first, refuses the next two and signs the last
 pub letter-d : (u v w x : ℕ)
     → map (λ (h : Request × Bool). h .1) (history identifiers (freshSigner identifiers) (asked u v w x))
     ≡ true ∷ false ∷ false ∷ true ∷ []

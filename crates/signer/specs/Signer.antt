@@ -1,4 +1,4 @@
--- Document 01, "Signer". The machine's part first: a signer, a fresh one, and what a request does.
+-- Document 01, "Signer": first a fresh signer and what one request does, then a list of requests.
 use Prim.Native.Nat.{ℕ}
 use mathlib.Core.Path.{_≡_}
 use mathlib.Core.Bool.{Bool, true, false, _&&_}
@@ -18,20 +18,19 @@ freshSigner limit = record { last = record { 0 = 0 }; log = emptyLog limit }
 abbrev pub Signed : Signer → ℕ → ℕ → Type 0
 Signed s i v = entryAt (s .log) i ≡ entryOf v
 
--- it signs under i if i is an identifier above `last`, whatever the value
+-- a request under i is granted if i is an identifier above `last`; the value plays no part
 unfoldable pub grants : ℕ → Signer → ℕ → Bool
 grants limit s i = isIdentifier limit i && ltb (s .last .0) i
 
--- asked for identifier i and value v: granted, v stands under i and `last` becomes i;
--- refused, nothing changes, so a refused request leaves no trace for a later one
+-- a request for value v under identifier i: if it is granted, v is recorded under i, which is the new
+-- `last`; if it is refused, the signer is as it was, so nothing later depends on what was refused
 unfoldable pub sign : ℕ → Signer → ℕ → ℕ → Signing
 sign limit s i v =
     if grants limit s i
     then record { signer = record { last = record { 0 = i }; log = withEntry (s .log) i (entryOf v) }; signed = true }
     else record { signer = s; signed = false }
 
--- Then what a list of requests, oldest first, comes to.
-
+-- a request, of a list that has the oldest first
 pub record Request : Type 0 where
   pub identifier : ℕ
   pub value : ℕ
