@@ -10,7 +10,6 @@ use mathlib.Core.List.{
   [],
   _∷_,
   _++_,
-  List·Memᴰ,
   List·Memᴰ·head,
   List·Memᴰ·tail,
   List·Memᴰ·cases-cons,

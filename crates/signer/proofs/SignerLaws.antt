@@ -1,12 +1,12 @@
 -- Laws of one request. Assumes nothing.
 use Prim.Native.Nat.{ℕ, _≤_, _<_}
 use native.Mathlib.Omega.{arith}
-use mathlib.Core.Path.{_≡_, refl, ap, sym, _∙_}
+use mathlib.Core.Path.{_≡_, refl, sym, _∙_}
 use mathlib.Core.Bool.{true, false, true≢false}
 use mathlib.Core.Logic.{_⊎_, inl, inr, ⊎-elim}
 use borrow.Author.Tests.{ltb-true, lt-ltb}
 use lib.Dec.{ltb}
-use Rattle.signer.specs.Log.{isIdentifier, entryOf, entryAt, withEntry}
+use Rattle.signer.specs.Log.{isIdentifier, entryOf, entryAt}
 use Rattle.signer.specs.Signer.{freshSigner, Signed, grants, sign}
 use Rattle.signer.specs.declared.signer.Signer.{Signer}
 use Rattle.signer.specs.declared.signer.Signing.{Signing}

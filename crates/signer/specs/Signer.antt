@@ -6,7 +6,6 @@ use mathlib.Core.List.{List, [], _∷_, List·Memᴰ}
 use lib.Dec.{ltb}
 use Rattle.signer.specs.Choice.{if_then_else_}
 use Rattle.signer.specs.Log.{entryOf, isIdentifier, emptyLog, entryAt, withEntry}
-use Rattle.signer.specs.declared.log.Log.{Log}
 use Rattle.signer.specs.declared.signer.Signer.{Signer}
 use Rattle.signer.specs.declared.signer.Signing.{Signing}
 

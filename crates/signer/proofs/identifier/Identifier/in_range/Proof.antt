@@ -1,5 +1,5 @@
 -- `Identifier::in_range` meets its contract. Assumes nothing.
-use borrow.Author.Tests.{lt-leb, le-leb}
+use borrow.Author.Tests.{le-leb}
 use native.Mathlib.Omega.{arith}
 use Prim.Native.Nat.{_≤_}
 use Rattle.signer.specs.Log.{isIdentifier}
