@@ -138,6 +138,10 @@ module _ (limit : ℕ) (rs : List Request) where
   pub fresh-after-wellformed : WellFormed limit (after limit (freshSigner limit) rs)
   fresh-after-wellformed = after-wellformed limit (freshSigner limit) rs (fresh-wellformed limit)
 
+  -- `last` is an identifier, or 0
+  pub fresh-within : after limit (freshSigner limit) rs .last .0 ≤ limit
+  fresh-within = fresh-after-wellformed .within
+
   -- what is signed has an identifier of at most `last`
   pub fresh-capped : (i v : ℕ) → Signed (after limit (freshSigner limit) rs) i v → i ≤ after limit (freshSigner limit) rs .last .0
   fresh-capped = fresh-after-wellformed .capped

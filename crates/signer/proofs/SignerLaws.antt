@@ -19,12 +19,14 @@ use Rattle.signer.proofs.LogLaws.{
   entry-same,
   entry-other,
   entry-elim,
+  identifier-high,
 }
 
--- what a signer is after any requests from a fresh one: its log has a place for each identifier, and what
--- is signed has an identifier of at most `last`
+-- what a signer is after any requests from a fresh one: its log has a place for each identifier, `last` is
+-- one or 0, and what is signed has an identifier of at most `last`
 pub record WellFormed (limit : ℕ) (s : Signer) : Type 0 where
   pub whole : Whole limit (s .log)
+  pub within : s .last .0 ≤ limit
   pub capped : (i v : ℕ) → Signed s i v → i ≤ s .last .0
 
 -- a fresh signer has signed nothing
@@ -35,7 +37,11 @@ fresh-unsigned limit i v h = omega (arith, entry-empty limit i)
 pub fresh-wellformed : (limit : ℕ) → WellFormed limit (freshSigner limit)
 unfolding freshSigner
 fresh-wellformed limit =
-    record { whole = empty-whole limit; capped = λ i v h. absurd (fresh-unsigned limit i v h) }
+    record {
+      whole = empty-whole limit;
+      within = omega arith;
+      capped = λ i v h. absurd (fresh-unsigned limit i v h);
+    }
 
 -- under one identifier stands at most one value
 pub signed-one : (s : Signer) (i v w : ℕ) → Signed s i v → Signed s i w → v ≡ w
@@ -150,6 +156,14 @@ module _ (limit : ℕ) (s : Signer) (i v : ℕ) where
             _
             (λ g. with-whole limit (s .log) i (entryOf v) (w .whole))
             (λ g. w .whole);
+        within =
+            if-elim
+            (λ (o : Signing). o .signer .last .0 ≤ limit)
+            (grants limit s i)
+            _
+            _
+            (λ g. identifier-high limit i (grants-identifier limit s i g))
+            (λ g. w .within);
         capped = λ j u h.
             ⊎-elim
             (λ (p : Signed s j u). omega (arith, w .capped j u p, sign-rises))

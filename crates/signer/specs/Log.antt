@@ -15,8 +15,8 @@ identifiers = 64
 unfoldable pub isIdentifier : ℕ → ℕ → Bool
 isIdentifier limit i = leb 1 i && leb i limit
 
--- a log's entry for the value v, one more than v; so the blank (document 01's ⊥, value 0) has an entry of
--- its own, and entry 0 is left to say that there is no statement
+-- a log's entry for the value v, one more than v; so the blank (0, ⊥ in the published vote) has an
+-- entry of its own, and entry 0 is left to say that there is no statement
 abbrev pub entryOf : ℕ → ℕ
 entryOf v = suc v
 
