@@ -7,28 +7,29 @@ use lib.ListN.{length, getD, set, replicate, length-set, List·getD-eq-default}
 use lib.Seq.{getD-set-same, getD-set-other, set-out}
 use Rattle.signer.specs.FromOne.{nth, setNth}
 
+from-one : (k : ℕ) → 1 ≤ k → k ≡ suc (k - 1)
+from-one k h = omega arith
+
 module _ {A : Type 0} (xs : List A) where
   -- element k stands at index k - 1
   pub nth-index : (k : ℕ) (d : A) → 1 ≤ k → nth xs k d ≡ getD xs (k - 1) d
   unfolding nth
-  nth-index zero d h = absurd (omega arith)
-  nth-index (suc k) d h = let e : k ≡ suc k - 1 = omega arith in ap (λ (i : ℕ). getD xs i d) e
+  nth-index k d h = ap (λ (j : ℕ). nth xs j d) (from-one k h)
 
   pub setNth-index : (k : ℕ) (a : A) → 1 ≤ k → setNth xs k a ≡ set xs (k - 1) a
   unfolding setNth
-  setNth-index zero a h = absurd (omega arith)
-  setNth-index (suc k) a h = let e : k ≡ suc k - 1 = omega arith in ap (λ (i : ℕ). set xs i a) e
+  setNth-index k a h = ap (λ (j : ℕ). setNth xs j a) (from-one k h)
 
-  -- there is no element past the end
-  pub nth-past : (k : ℕ) (d : A) → length xs < k → nth xs k d ≡ d
+  -- there is no element 0, and none past the end
+  pub nth-none : (k : ℕ) (d : A) → (1 ≤ k → length xs < k) → nth xs k d ≡ d
   unfolding nth
-  nth-past zero d h = refl
-  nth-past (suc k) d h = List·getD-eq-default xs d (omega arith)
+  nth-none zero d h = refl
+  nth-none (suc k) d h = List·getD-eq-default xs d (omega (arith, h (omega arith)))
 
-  pub setNth-past : (k : ℕ) (a : A) → length xs < k → setNth xs k a ≡ xs
+  pub setNth-none : (k : ℕ) (a : A) → (1 ≤ k → length xs < k) → setNth xs k a ≡ xs
   unfolding setNth
-  setNth-past zero a h = refl
-  setNth-past (suc k) a h = set-out xs k a (omega arith)
+  setNth-none zero a h = refl
+  setNth-none (suc k) a h = set-out xs k a (omega (arith, h (omega arith)))
 
   pub length-setNth : (k : ℕ) (a : A) → length (setNth xs k a) ≡ length xs
   unfolding setNth

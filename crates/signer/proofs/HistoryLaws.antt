@@ -106,9 +106,9 @@ module _ (limit : ℕ) where
       first e =
           let p : i ≡ r .identifier = ap (λ (a : Request × Bool). a .0 .identifier) e in
           let q : v ≡ r .value = ap (λ (a : Request × Bool). a .0 .value) e in
-          let g : true ≡ ask limit s r .signed = ap (λ (a : Request × Bool). a .1) e in
-          let here : Signed t (r .identifier) (r .value) =
-          sign-stands limit s (r .identifier) (r .value) w (sym (g ∙ sign-answer limit s (r .identifier) (r .value))) in
+          let a : true ≡ ask limit s r .signed = ap (λ (a : Request × Bool). a .1) e in
+          let g : grants limit s (r .identifier) ≡ true = sym (a ∙ sign-answer limit s (r .identifier) (r .value)) in
+          let here : Signed t (r .identifier) (r .value) = sign-stands limit s (r .identifier) (r .value) w g in
           cc
 
   -- and what stands at the end was signed on the way, or before

@@ -1,8 +1,7 @@
 -- Laws of identifiers and logs. Assumes nothing.
-use Prim.Native.Nat.{ℕ, zero, suc, _-_, _≤_, _<_}
-use mathlib.Core.Path.{_≡_, refl, ap, subst⁻¹, _∙_}
+use Prim.Native.Nat.{ℕ, _-_, _≤_, _<_}
+use mathlib.Core.Path.{_≡_, ap, subst⁻¹, _∙_}
 use mathlib.Core.List.{List}
-use Rattle.signer.specs.FromOne.{nth, setNth}
 use mathlib.Core.Bool.{true, false}
 use native.Mathlib.Omega.{arith}
 use native.Mathlib.Decide.{ℕ-discrete}
@@ -15,8 +14,8 @@ use Rattle.signer.proofs.ChoiceLaws.{and-left, and-right}
 use Rattle.signer.proofs.FromOneLaws.{
   nth-index,
   setNth-index,
-  nth-past,
-  setNth-past,
+  nth-none,
+  setNth-none,
   length-setNth,
   nth-set-same,
   nth-set-other,
@@ -76,17 +75,17 @@ entry-elim limit l i e w h P j here there = go (ℕ-discrete j i)
     go (no p) = subst⁻¹ P (entry-other l i e j p) (there p)
 
 -- under a number that is no identifier a log says nothing and takes nothing
+outside : (limit : ℕ) (l : Log) (i : ℕ) → Whole limit l → isIdentifier limit i ≡ false → 1 ≤ i → length (l .entries) < i
+outside limit l i w h low = omega (arith, w .whole, identifier-out limit i h low)
+
 pub entry-outside : (limit : ℕ) (l : Log) (i : ℕ) → Whole limit l → isIdentifier limit i ≡ false → entryAt l i ≡ 0
-unfolding entryAt nth
-entry-outside limit l zero w h = refl
-entry-outside limit l (suc i) w h =
-    nth-past (l .entries) (suc i) 0 (omega (arith, w .whole, identifier-out limit (suc i) h (omega arith)))
+unfolding entryAt
+entry-outside limit l i w h = nth-none (l .entries) i 0 (outside limit l i w h)
 
 pub with-outside : (limit : ℕ) (l : Log) (i e : ℕ) → Whole limit l → isIdentifier limit i ≡ false → withEntry l i e ≡ l
-unfolding withEntry setNth
-with-outside limit l zero e w h = refl
-with-outside limit l (suc i) e w h =
-    ap (λ (es : List ℕ). record { entries = es }) (setNth-past (l .entries) (suc i) e (omega (arith, w .whole, identifier-out limit (suc i) h (omega arith))))
+unfolding withEntry
+with-outside limit l i e w h =
+    ap (λ (es : List ℕ). record { entries = es }) (setNth-none (l .entries) i e (outside limit l i w h))
 
 -- where an identifier's entry stands
 pub entry-index : (limit : ℕ) (l : Log) (i : ℕ) → isIdentifier limit i ≡ true → entryAt l i ≡ getD (l .entries) (i - 1) 0

@@ -51,19 +51,18 @@ signed-one s i v w p q = omega arith
 pub blank-stands : (s : Signer) (i : ℕ) → Signed s i 0 → entryAt (s .log) i ≡ 0 → ⊥
 blank-stands s i p q = omega arith
 
--- what is granted: an identifier above `last`
+-- what is granted: exactly an identifier above `last`
 module _ (limit : ℕ) (s : Signer) (i : ℕ) where
-  pub grants-identifier : grants limit s i ≡ true → isIdentifier limit i ≡ true
+  pub grants-only : grants limit s i ≡ true → (isIdentifier limit i ≡ true) × (s .last .0 < i)
   unfolding grants
-  grants-identifier h = and-left (isIdentifier limit i) (ltb (s .last .0) i) h
+  grants-only h = (
+    and-left (isIdentifier limit i) (ltb (s .last .0) i) h,
+    ltb-true (s .last .0) i (and-right (isIdentifier limit i) (ltb (s .last .0) i) h),
+  )
 
-  pub grants-above : grants limit s i ≡ true → s .last .0 < i
+  pub grants-above : isIdentifier limit i ≡ true → s .last .0 < i → grants limit s i ≡ true
   unfolding grants
-  grants-above h = ltb-true (s .last .0) i (and-right (isIdentifier limit i) (ltb (s .last .0) i) h)
-
-  pub above-grants : isIdentifier limit i ≡ true → s .last .0 < i → grants limit s i ≡ true
-  unfolding grants
-  above-grants h l = rw (h, lt-ltb (s .last .0) i l)
+  grants-above h l = rw (h, lt-ltb (s .last .0) i l)
 
 module _ (limit : ℕ) (s : Signer) (i v : ℕ) where
   -- the answer says whether the request was granted, whatever the value
@@ -92,7 +91,7 @@ module _ (limit : ℕ) (s : Signer) (i v : ℕ) where
       (grants limit s i)
       _
       _
-      (λ g. omega (arith, grants-above limit s i g))
+      (λ g. omega (arith, grants-only limit s i g .1))
       (λ g. omega arith)
 
   -- granted: the value stands under the identifier, the blank too
@@ -104,7 +103,7 @@ module _ (limit : ℕ) (s : Signer) (i v : ℕ) where
       (grants limit s i)
       _
       _
-      (λ g. entry-same limit (s .log) i (entryOf v) (w .whole) (grants-identifier limit s i g))
+      (λ g. entry-same limit (s .log) i (entryOf v) (w .whole) (grants-only limit s i g .0))
       (λ g. absurd (true≢false (sym h ∙ g)))
 
   -- granted or refused: what was signed stays
@@ -116,7 +115,7 @@ module _ (limit : ℕ) (s : Signer) (i v : ℕ) where
       (grants limit s i)
       _
       _
-      (λ g. entry-other (s .log) i (entryOf v) j (λ e. omega (arith, w .capped j u h, grants-above limit s i g)) ∙ h)
+      (λ g. entry-other (s .log) i (entryOf v) j (λ e. omega (arith, w .capped j u h, grants-only limit s i g .1)) ∙ h)
       (λ g. h)
 
   -- and what is signed was so before, or was just granted
@@ -136,7 +135,7 @@ module _ (limit : ℕ) (s : Signer) (i v : ℕ) where
       i
       (entryOf v)
       (w .whole)
-      (grants-identifier limit s i g)
+      (grants-only limit s i g .0)
       (λ (e : ℕ). e ≡ entryOf u → Signed s j u ⊎ ((grants limit s i ≡ true) × (j ≡ i) × (u ≡ v)))
       j
       (λ e h. inr (g, e, omega arith))
@@ -162,7 +161,7 @@ module _ (limit : ℕ) (s : Signer) (i v : ℕ) where
             (grants limit s i)
             _
             _
-            (λ g. identifier-high limit i (grants-identifier limit s i g))
+            (λ g. identifier-high limit i (grants-only limit s i g .0))
             (λ g. w .within);
         capped = λ j u h.
             ⊎-elim

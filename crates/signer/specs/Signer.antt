@@ -29,11 +29,12 @@ sign limit s i v =
     then record { signer = record { last = record { 0 = i }; log = withEntry (s .log) i (entryOf v) }; signed = true }
     else record { signer = s; signed = false }
 
--- a request, of a list that has the oldest first
+-- a request; in a list of them the oldest comes first
 pub record Request : Type 0 where
   pub identifier : ℕ
   pub value : ℕ
 
+-- what comes of one
 abbrev pub ask : ℕ → Signer → Request → Signing
 ask limit s r = sign limit s (r .identifier) (r .value)
 
