@@ -18,3 +18,12 @@ pub and-right : (a b : Bool) → (a && b) ≡ true → b ≡ true
 and-right true b h = h
 and-right false true h = refl
 and-right false false h = h
+
+-- and the one chosen is known where the test is
+pub if-true : {A : Type 0} (b : Bool) (x y : A) → b ≡ true → (if b then x else y) ≡ x
+unfolding if_then_else_
+if-true b x y h = rw h
+
+pub if-false : {A : Type 0} (b : Bool) (x y : A) → b ≡ false → (if b then x else y) ≡ y
+unfolding if_then_else_
+if-false b x y h = rw h

@@ -1,0 +1,277 @@
+-- What is allowed in the next round, by counts: how many ballots are blank, and how many bear the value of
+-- the opening that counts. So no choice of speakers has to be tried. Assumes nothing.
+use Prim.Native.Nat.{ℕ, zero, suc, _+_, _-_, _≤_, _<_, min}
+use native.Mathlib.Omega.{arith}
+use native.Mathlib.Decide.{decLe}
+use mathlib.Core.Path.{_≡_, refl, sym, ap, _∙_}
+use mathlib.Core.Bool.{Bool, true, false, true≢false}
+use mathlib.Core.Logic.{_⊎_, inl, inr, ⊎-elim}
+use mathlib.Core.List.{List, List·Memᴰ}
+use borrow.Author.Tests.{eqb-true, eq-eqb, leb-true, le-leb}
+use lib.Dec.{eqb, leb}
+use lib.ListN.{length}
+use Rattle.signer.specs.Log.{entryOf}
+use Rattle.delivery.specs.Tests.{_and_, _or_, neg}
+use Rattle.delivery.specs.Counting.{countIn, countOf}
+use Rattle.delivery.specs.Limits.{Limits}
+use Rattle.delivery.specs.Bus.{quorum, overlap}
+use Rattle.delivery.specs.Delivered.{Store}
+use Rattle.delivery.specs.Acceptance.{says, opens, bears, allowedAfter}
+use Rattle.delivery.proofs.TestLaws.{and-left, and-right, and-in, or-cases, or-left, or-right, same-test, decided}
+use Rattle.delivery.proofs.CountLaws.{overlap-pos, overlap-le}
+use Rattle.delivery.proofs.ChoosingLaws.{choice-within, find-member, count-alike, length-either, Chosen, choose}
+use Rattle.delivery.proofs.AcceptanceLaws.{
+  says-value,
+  value-says,
+  some-value,
+  value-some,
+  openingEntry,
+  Opens,
+  opens-reads,
+  reads-opens,
+  bears-reads,
+  reads-bears,
+  Counts,
+  Divided,
+  Carries,
+  AllowedNext,
+  after-reads,
+  reads-after,
+  carried-opened,
+}
+
+-- q of b and d: d first
+share : (q b d : ℕ) → q ≤ b + d → (q - min d q ≤ b) × (min d q ≤ d) × ((q - min d q) + min d q ≡ q)
+share q b d l = (omega arith, omega arith, omega arith)
+
+-- fewer than e of c
+below : (c e : ℕ) → 1 ≤ e → (min c (e - 1) ≤ c) × (min c (e - 1) < e)
+below c e l = (omega arith, omega arith)
+
+-- the ballot of round r that s gave bears the value of entry x
+unfoldable pub backs : Limits → Store → ℕ → ℕ → ℕ → Bool
+backs L h r x s = says x (λ (w : ℕ). bears L h r w s)
+
+-- how many ballots of 1 to n are blank, and how many bear that value
+abbrev pub blank : Limits → ℕ → Store → ℕ → ℕ
+blank L n h r = countIn n (bears L h r 0)
+
+abbrev pub backing : Limits → ℕ → Store → ℕ → ℕ → ℕ
+backing L n h r x = countIn n (backs L h r x)
+
+-- one round, and an entry x
+module _ (L : Limits) (n : ℕ) (h : Store) (may : ℕ → Bool) (r x : ℕ) where
+  -- x is the entry of the opening that counts, or 0 where none does
+  pub record Opened : Type 0 where
+    pub sound : (w : ℕ) → x ≡ entryOf w → Opens L n h may r w
+    pub complete : (w : ℕ) → Opens L n h may r w → x ≡ entryOf w
+
+module _ (L : Limits) (n : ℕ) (h : Store) (may : ℕ → Bool) (r x : ℕ) (o : Opened L n h may r x) where
+  -- a ballot that counts is blank or bears the opening's value
+  either : (v s : ℕ) → Counts L n h may r v s → (bears L h r 0 s ≡ true) ⊎ (backs L h r x s ≡ true)
+  unfolding backs
+  either v s b =
+      ⊎-elim
+      (λ (z : v ≡ 0). inl (reads-bears L h r 0 s (b .said ∙ ap entryOf z)))
+      (λ (p : Opens L n h may r v).
+      inr (value-says x v (λ (w : ℕ). bears L h r w s) (o .complete v p) (reads-bears L h r v s (b .said))))
+      (b .backed)
+
+  backs-reads : (s : ℕ) → backs L h r x s ≡ true → (w : ℕ) × (x ≡ entryOf w) × Counts L n h may r w s
+  unfolding backs
+  backs-reads s b =
+      let y = says-value x (λ (w : ℕ). bears L h r w s) b in
+      (y .0, y .1, record { said = bears-reads L h r (y .0) s (y .2); backed = inr (o .sound (y .0) (y .1)) })
+
+  either-counts : (s : ℕ) → (bears L h r 0 s ≡ true) ⊎ (backs L h r x s ≡ true) → (v : ℕ) × Counts L n h may r v s
+  either-counts s =
+      ⊎-elim
+      (λ (b : bears L h r 0 s ≡ true). (0, record { said = bears-reads L h r 0 s b; backed = inl refl }))
+      (λ (b : backs L h r x s ≡ true). let y = backs-reads s b in (y .0, y .2))
+
+  -- never both
+  apart : (s : ℕ) → bears L h r 0 s ≡ true → backs L h r x s ≡ true → ⊥
+  apart s b c =
+      let y = backs-reads s c in
+      o .sound (y .0) (y .1) .value (omega (arith, y .2 .said, bears-reads L h r 0 s b))
+
+  -- the opening's value is borne by those that back it
+  same : (w : ℕ) → x ≡ entryOf w → (ss : List ℕ) → countOf (bears L h r w) ss ≡ countOf (backs L h r x) ss
+  unfolding backs says
+  same w e ss = count-alike (bears L h r w) (backs L h r x) ss (λ s m. rw e)
+
+  -- what a choice of q or more says of the counts
+  size : (w : ℕ) (ss : List ℕ) → Carries L n h may r w ss
+      → length ss ≤ countIn n (bears L h r 0) + countOf (backs L h r x) ss
+  size w ss c =
+      omega (
+        arith,
+        length-either
+            (bears L h r 0)
+            (backs L h r x)
+            apart
+            ss
+            (λ s m. let y = c .counted s m in either (y .0) s (y .1)),
+        choice-within (bears L h r 0) (c .choice),
+      )
+
+  backing-few : (ss : List ℕ) → 1 ≤ overlap n → Divided L n h may r ss → countOf (backs L h r x) ss < overlap n
+  backing-few ss e d = go (decLe 1 (countOf (backs L h r x) ss))
+    where
+      go : Dec (1 ≤ countOf (backs L h r x) ss) → countOf (backs L h r x) ss < overlap n
+      go (no l) = omega arith
+      go (yes l) =
+          let s = find-member (backs L h r x) ss l in
+          let y = backs-reads (s .0) (s .2) in
+          omega (arith, same (y .0) (y .1) ss, d (y .0) (o .sound (y .0) (y .1) .value))
+
+  pub carries-counts : (w : ℕ) (ss : List ℕ) → 1 ≤ n → (w ≡ 0 → ⊥) → quorum n ≤ length ss → Carries L n h may r w ss
+      → ((x ≡ entryOf w) × (quorum n ≤ blank L n h r + backing L n h r x) × (overlap n ≤ backing L n h r x))
+      ⊎ ((quorum n ≤ blank L n h r + min (backing L n h r x) (overlap n - 1)) × (may w ≡ true))
+  carries-counts w ss some z l c =
+      ⊎-elim
+      (λ (e : overlap n ≤ countOf (bears L h r w) ss).
+      let k = o .complete w (carried-opened L n h may r w ss z c (omega (arith, overlap-pos n some))) in
+      let b : countOf (backs L h r x) ss ≤ backing L n h r x = choice-within (backs L h r x) (c .choice) in
+      inl (k, omega (arith, size w ss c), omega (arith, same w k ss)))
+      (λ (d : Divided L n h may r ss × (may w ≡ true)).
+      let b : countOf (backs L h r x) ss ≤ backing L n h r x = choice-within (backs L h r x) (c .choice) in
+      let f = backing-few ss (overlap-pos n some) (d .0) in
+      inr (omega (arith, size w ss c), d .1))
+      (c .reason)
+
+  -- and the counts give a choice of exactly q
+  carries-chosen : (w i j : ℕ) → Chosen (bears L h r 0) (backs L h r x) apart n i j
+      → ((k : Chosen (bears L h r 0) (backs L h r x) apart n i j) → (overlap n ≤ countOf (bears L h r w) (k .numbers)) ⊎ (Divided L n h may r (k .numbers) × (may w ≡ true)))
+      → (w ≡ 0 → ⊥) → i + j ≡ quorum n → allowedAfter L n h may r w ≡ true
+  carries-chosen w i j k f z e =
+      reads-after
+      L
+      n
+      h
+      may
+      r
+      w
+      (record {
+        value = z;
+        speakers = k .numbers;
+        size = length-either (bears L h r 0) (backs L h r x) apart (k .numbers) (k .only) ∙ (omega (arith, k .first, k .second));
+        carries = record { choice = k .choice; counted = λ s m. either-counts s (k .only s m); reason = f k };
+      })
+
+  -- e of them may bear the opening's value
+  pub many-allowed : (w : ℕ) → (w ≡ 0 → ⊥) → x ≡ entryOf w → quorum n ≤ blank L n h r + backing L n h r x
+      → overlap n ≤ backing L n h r x → allowedAfter L n h may r w ≡ true
+  many-allowed w z e l m =
+      let q = quorum n in
+      let c = backing L n h r x in
+      let t = share q (blank L n h r) c l in
+      carries-chosen
+      w
+      (q - min c q)
+      (min c q)
+      (choose (bears L h r 0) (backs L h r x) apart n (q - min c q) (min c q) (t .0) (t .1))
+      (λ k. inl (omega (arith, same w e (k .numbers), k .second, overlap-le n)))
+      z
+      (t .2)
+
+  -- or fewer do: then they are divided
+  chosen-divided : (i j : ℕ) (k : Chosen (bears L h r 0) (backs L h r x) apart n i j) → 1 ≤ overlap n → j < overlap n
+      → Divided L n h may r (k .numbers)
+  chosen-divided i j k e l v z = go (decLe 1 (countOf (bears L h r v) (k .numbers)))
+    where
+      go : Dec (1 ≤ countOf (bears L h r v) (k .numbers)) → countOf (bears L h r v) (k .numbers) < overlap n
+      go (no l′) = omega arith
+      go (yes l′) =
+          let s = find-member (bears L h r v) (k .numbers) l′ in
+          ⊎-elim
+          (λ (b : bears L h r 0 (s .0) ≡ true).
+          absurd (z (omega (arith, bears-reads L h r 0 (s .0) b, bears-reads L h r v (s .0) (s .2)))))
+          (λ (b : backs L h r x (s .0) ≡ true).
+          let y = backs-reads (s .0) b in
+          let u : x ≡ entryOf v = omega (arith, y .1, y .2 .said, bears-reads L h r v (s .0) (s .2)) in
+          omega (arith, same v u (k .numbers), k .second))
+          (k .only (s .0) (s .1))
+
+  pub few-allowed : (w : ℕ) → 1 ≤ n → (w ≡ 0 → ⊥) → quorum n ≤ blank L n h r + min (backing L n h r x) (overlap n - 1)
+      → may w ≡ true → allowedAfter L n h may r w ≡ true
+  few-allowed w some z l m =
+      let q = quorum n in
+      let d = min (backing L n h r x) (overlap n - 1) in
+      let t = share q (blank L n h r) d l in
+      let few : min d q < overlap n = omega (arith, t .1, below (backing L n h r x) (overlap n) (overlap-pos n some) .1) in
+      let most : min d q ≤ backing L n h r x = omega (arith, t .1, below (backing L n h r x) (overlap n) (overlap-pos n some) .0) in
+      carries-chosen
+      w
+      (q - min d q)
+      (min d q)
+      (choose (bears L h r 0) (backs L h r x) apart n (q - min d q) (min d q) (t .0) most)
+      (λ k. inr (chosen-divided (q - min d q) (min d q) k (overlap-pos n some) few, m))
+      z
+      (t .2)
+
+  -- at least q speakers do as well as exactly q
+  pub at-least : (w : ℕ) (ss : List ℕ) → 1 ≤ n → (w ≡ 0 → ⊥) → quorum n ≤ length ss → Carries L n h may r w ss
+      → allowedAfter L n h may r w ≡ true
+  at-least w ss some z l c =
+      ⊎-elim
+      (λ k. many-allowed w z (k .0) (k .1) (k .2))
+      (λ k. few-allowed w some z (k .0) (k .1))
+      (carries-counts w ss some z l c)
+
+  -- all of it as one test
+  pub next-counts : (w : ℕ) → 1 ≤ n → allowedAfter L n h may r w
+      ≡ (neg (eqb w 0)
+      and (eqb x (entryOf w) and leb (quorum n) (blank L n h r + backing L n h r x) and leb (overlap n) (backing L n h r x)
+      or leb (quorum n) (blank L n h r + min (backing L n h r x) (overlap n - 1)) and may w))
+  next-counts w some = same-test _ _ to from
+    where
+      value : Bool
+      value = neg (eqb w 0)
+
+      opening : Bool
+      opening = eqb x (entryOf w)
+
+      quorum′ : Bool
+      quorum′ = leb (quorum n) (blank L n h r + backing L n h r x)
+
+      enough : Bool
+      enough = leb (overlap n) (backing L n h r x)
+
+      few : Bool
+      few = leb (quorum n) (blank L n h r + min (backing L n h r x) (overlap n - 1))
+
+      to : allowedAfter L n h may r w ≡ true → (value and (opening and quorum′ and enough or few and may w)) ≡ true
+      to a =
+          let y = after-reads L n h may r w a in
+          and-in
+          value
+          _
+          (value-some w (y .value))
+          (⊎-elim
+          (λ k.
+          or-left
+          (opening and quorum′ and enough)
+          (few and may w)
+          (and-in
+          opening
+          (quorum′ and enough)
+          (eq-eqb x (entryOf w) (k .0))
+          (and-in quorum′ enough (le-leb _ _ (k .1)) (le-leb _ _ (k .2)))))
+          (λ k. or-right (opening and quorum′ and enough) (few and may w) (and-in few (may w) (le-leb _ _ (k .0)) (k .1)))
+          (carries-counts w (y .speakers) some (y .value) (omega (arith, y .size)) (y .carries)))
+
+      from : (value and (opening and quorum′ and enough or few and may w)) ≡ true → allowedAfter L n h may r w ≡ true
+      from a =
+          let z = some-value w (and-left value (opening and quorum′ and enough or few and may w) a) in
+          ⊎-elim
+          (λ (k : (opening and quorum′ and enough) ≡ true).
+          let l = and-right opening (quorum′ and enough) k in
+          many-allowed
+          w
+          z
+          (eqb-true x (entryOf w) (and-left opening (quorum′ and enough) k))
+          (leb-true _ _ (and-left quorum′ enough l))
+          (leb-true _ _ (and-right quorum′ enough l)))
+          (λ (k : (few and may w) ≡ true). few-allowed w some z (leb-true _ _ (and-left few (may w) k)) (and-right few (may w) k))
+          (or-cases (opening and quorum′ and enough) (few and may w) (and-right value (opening and quorum′ and enough or few and may w) a))

@@ -1,0 +1,162 @@
+-- Acceptance grows with what was delivered: what one store lets a board accept, a store with more in it does
+-- too. Assumes nothing.
+use Prim.Native.Nat.{ℕ, zero, suc, _≤_, _<_}
+use native.Mathlib.Omega.{arith}
+use mathlib.Core.Path.{_≡_, refl, sym, ap, _∙_}
+use mathlib.Core.Bool.{Bool, true, false}
+use mathlib.Core.Logic.{_⊎_, inl, inr, ⊎-elim}
+use mathlib.Core.List.{List, List·Memᴰ}
+use lib.Dec.{eqb}
+use Rattle.signer.specs.Log.{entryOf}
+use Rattle.delivery.specs.Counting.{countOf}
+use Rattle.delivery.specs.Limits.{Limits}
+use Rattle.delivery.specs.Bus.{quorum, overlap}
+use Rattle.delivery.specs.Rounds.{coordinator, identifierOf}
+use Rattle.delivery.specs.Delivered.{Store}
+use Rattle.delivery.specs.Acceptance.{bears, allowedAfter, allowed, acceptsOpening, acceptsBallot, acceptsSome}
+use Rattle.delivery.specs.declared.round.Phase.the-variants.{Opening, Ballot}
+use Rattle.delivery.proofs.CountLaws.{count-mono}
+use Rattle.delivery.proofs.ChoosingLaws.{count-alike}
+use Rattle.delivery.proofs.AcceptanceLaws.{
+  Opens,
+  opens-reads,
+  reads-opens,
+  Counts,
+  counts-reads,
+  reads-counts,
+  some-reads,
+  reads-some,
+  Divided,
+  Carries,
+  AllowedNext,
+  after-reads,
+  reads-after,
+}
+use Rattle.delivery.proofs.SingleStoreLaws.{Won}
+
+-- what stands in h stands in h′ too
+pub record Grows (h h′ : Store) : Type 0 where
+  pub keeps : (s i : ℕ) → (h s i ≡ 0 → ⊥) → h′ s i ≡ h s i
+
+said-grows : {h h′ : Store} (g : Grows h h′) (s i w : ℕ) → h s i ≡ entryOf w → h′ s i ≡ entryOf w
+said-grows g s i w e = g .keeps s i (λ z. omega arith) ∙ e
+
+-- one round, where as much or more is allowed
+module _ (L : Limits) (n : ℕ) (h h′ : Store) (may may′ : ℕ → Bool) (r : ℕ) (g : Grows h h′) (m : (w : ℕ) → may w ≡ true → may′ w ≡ true) where
+  opens-grows : (w : ℕ) → Opens L n h may r w → Opens L n h′ may′ r w
+  opens-grows w o =
+      record {
+        said = said-grows g (coordinator n r) (identifierOf L Opening r) w (o .said);
+        value = o .value;
+        permitted = m w (o .permitted);
+      }
+
+  counts-grows : (w s : ℕ) → Counts L n h may r w s → Counts L n h′ may′ r w s
+  counts-grows w s b =
+      record {
+        said = said-grows g s (identifierOf L Ballot r) w (b .said);
+        backed = ⊎-elim (λ (z : w ≡ 0). inl z) (λ (o : Opens L n h may r w). inr (opens-grows w o)) (b .backed);
+      }
+
+  -- the ballots chosen are the same
+  alike : (w : ℕ) (ss : List ℕ) → Carries L n h may r w ss → (v : ℕ)
+      → countOf (bears L h r v) ss ≡ countOf (bears L h′ r v) ss
+  unfolding bears
+  alike w ss c v =
+      count-alike
+      (bears L h r v)
+      (bears L h′ r v)
+      ss
+      (λ s k.
+      let x = c .counted s k in
+      let e : h′ s (identifierOf L Ballot r) ≡ h s (identifierOf L Ballot r) = said-grows g s (identifierOf L Ballot r) (x .0) (x .1 .said) ∙ sym (x .1 .said) in
+      ap (λ (y : ℕ). eqb y (entryOf v)) (sym e))
+
+  carries-grows : (w : ℕ) (ss : List ℕ) → Carries L n h may r w ss → Carries L n h′ may′ r w ss
+  carries-grows w ss c =
+      record {
+        choice = c .choice;
+        counted = λ s k. let x = c .counted s k in (x .0, counts-grows (x .0) s (x .1));
+        reason =
+            ⊎-elim
+            (λ (e : overlap n ≤ countOf (bears L h r w) ss). inl (rw (alike w ss c w) at e))
+            (λ (d : Divided L n h may r ss × (may w ≡ true)). inr (λ v z. rw (alike w ss c v) at (d .0 v z), m w (d .1)))
+            (c .reason);
+      }
+
+  after-grows : (w : ℕ) → allowedAfter L n h may r w ≡ true → allowedAfter L n h′ may′ r w ≡ true
+  after-grows w a =
+      let x = after-reads L n h may r w a in
+      reads-after
+      L
+      n
+      h′
+      may′
+      r
+      w
+      (record {
+        value = x .value;
+        speakers = x .speakers;
+        size = x .size;
+        carries = carries-grows w (x .speakers) (x .carries);
+      })
+
+module _ (L : Limits) (n : ℕ) (h h′ : Store) (g : Grows h h′) where
+  pub allowed-grows : (r w : ℕ) → allowed L n h r w ≡ true → allowed L n h′ r w ≡ true
+  unfolding allowed
+  allowed-grows zero w a = a
+  allowed-grows (suc zero) w a = a
+  allowed-grows (suc (suc r)) w a =
+      after-grows L n h h′ (allowed L n h (suc r)) (allowed L n h′ (suc r)) (suc r) g (allowed-grows (suc r)) w a
+
+  pub opening-grows : (r w : ℕ) → acceptsOpening L n h r w ≡ true → acceptsOpening L n h′ r w ≡ true
+  unfolding acceptsOpening
+  opening-grows r w o =
+      reads-opens
+      L
+      n
+      h′
+      (allowed L n h′ r)
+      r
+      w
+      (opens-grows L n h h′ (allowed L n h r) (allowed L n h′ r) r g (allowed-grows r) w (opens-reads L n h (allowed L n h r) r w o))
+
+  pub ballot-grows : (r s w : ℕ) → acceptsBallot L n h r s w ≡ true → acceptsBallot L n h′ r s w ≡ true
+  unfolding acceptsBallot
+  ballot-grows r s w b =
+      reads-counts
+      L
+      n
+      h′
+      (allowed L n h′ r)
+      r
+      w
+      s
+      (counts-grows L n h h′ (allowed L n h r) (allowed L n h′ r) r g (allowed-grows r) w s (counts-reads L n h (allowed L n h r) r w s b))
+
+  pub some-grows : (r s : ℕ) → acceptsSome L n h r s ≡ true → acceptsSome L n h′ r s ≡ true
+  unfolding acceptsSome
+  some-grows r s b =
+      let x = some-reads L n h (allowed L n h r) r s b in
+      reads-some
+      L
+      n
+      h′
+      (allowed L n h′ r)
+      r
+      (x .0)
+      s
+      (counts-grows L n h h′ (allowed L n h r) (allowed L n h′ r) r g (allowed-grows r) (x .0) s (x .1))
+
+  -- so what is won stays won
+  pub won-grows : (r v : ℕ) → Won L n h r v → Won L n h′ r v
+  won-grows r v o =
+      record {
+        value = o .value;
+        quorum-bears =
+            omega (
+              arith,
+              o .quorum-bears,
+              count-mono n (λ (s : ℕ). acceptsBallot L n h r s v) (λ (s : ℕ). acceptsBallot L n h′ r s v) (λ s l u b. ballot-grows r s v b),
+            );
+      }

@@ -1,0 +1,14 @@
+pub mod TestLaws
+pub mod CountLaws
+pub mod BoardLaws
+pub mod RoundLaws
+pub mod SetLaws
+pub mod DeliveredLaws
+pub mod OwedLaws
+pub mod ChoosingLaws
+pub mod AcceptanceLaws
+pub mod RoundsLaws
+pub mod SingleStoreLaws
+pub mod GrowthLaws
+pub mod AllowanceLaws
+pub mod PassLaws

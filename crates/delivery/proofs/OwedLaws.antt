@@ -1,0 +1,222 @@
+-- Laws of the copies that are owed. Assumes nothing.
+use Prim.Native.Nat.{ℕ}
+use mathlib.Core.Path.{_≡_, refl, ap, sym, _∙_}
+use mathlib.Core.List.{List}
+use mathlib.Core.Bool.{Bool, true, false}
+use mathlib.Core.Logic.{_⊎_, ⊎-elim}
+use native.Mathlib.Omega.{arith}
+use lib.Dec.{eqb}
+use lib.ListN.{length, length-replicate}
+use Rattle.signer.specs.Log.{isIdentifier}
+use Rattle.signer.proofs.FromOneLaws.{setNth-none, length-setNth, nth-set-same, nth-set-other, nth-replicate}
+use Rattle.signer.proofs.LogLaws.{identifier-low, identifier-high, identifier-out}
+use Rattle.delivery.specs.Tests.{_and_, _or_, neg}
+use Rattle.delivery.specs.Limits.{Limits}
+use Rattle.delivery.specs.Bus.{isBoard}
+use Rattle.delivery.specs.Sets.{inSet, setOf, bits, withoutBoard, union, minus}
+use Rattle.delivery.specs.Owed.{
+  noCopies,
+  receiversAt,
+  withReceiversAt,
+  nothingOwed,
+  copiesOf,
+  withCopies,
+  receivers,
+  withReceivers,
+  lacks,
+  afterSigning,
+  afterDelivery,
+}
+use Rattle.delivery.specs.declared.owed.Copies.{Copies}
+use Rattle.delivery.specs.declared.owed.Owed.{Owed}
+use Rattle.delivery.proofs.BoardLaws.{board-low, board-high, board-out}
+use Rattle.signer.proofs.FromOneLaws.{nth-change, set-back}
+use Rattle.delivery.proofs.SetLaws.{set-cong, in-setOf-within, in-without, in-minus}
+
+-- there is a set for each board as the speaker and each identifier
+pub record Complete (L : Limits) (o : Owed) : Type 0 where
+  pub size : length (o .speakers) ≡ L .boards
+  pub each : (s : ℕ) → length (copiesOf L o s .receivers) ≡ L .identifiers
+
+-- where nothing is owed
+copies-nothing : (L : Limits) (s : ℕ) → copiesOf L (nothingOwed L) s ≡ noCopies L
+unfolding nothingOwed copiesOf
+copies-nothing L s = nth-replicate (L .boards) s (noCopies L)
+
+pub nothing-complete : (L : Limits) → Complete L (nothingOwed L)
+unfolding nothingOwed noCopies
+nothing-complete L =
+    record {
+      size = length-replicate (L .boards) (noCopies L);
+      each = λ s. ap (λ (c : Copies). length (c .receivers)) (copies-nothing L s) ∙ length-replicate (L .identifiers) 0;
+    }
+
+pub owed-nothing : (L : Limits) (s i : ℕ) → receivers L (nothingOwed L) s i ≡ 0
+unfolding receivers receiversAt noCopies
+owed-nothing L s i =
+    ap (λ (c : Copies). receiversAt c i) (copies-nothing L s) ∙ nth-replicate (L .identifiers) i 0
+
+-- one set replaced
+module _ (L : Limits) (o : Owed) (s i m : ℕ) where
+  copies-with : (s′ : ℕ) → (copiesOf L (withReceivers L o s i m) s′ ≡ copiesOf L o s′)
+      ⊎ ((s′ ≡ s) × (copiesOf L (withReceivers L o s i m) s′ ≡ withReceiversAt (copiesOf L o s) i m))
+  unfolding copiesOf withReceivers withCopies
+  copies-with s′ = nth-change (o .speakers) s′ s (withReceiversAt (copiesOf L o s) i m) (noCopies L)
+
+  with-complete : Complete L o → Complete L (withReceivers L o s i m)
+  unfolding withReceivers withCopies withReceiversAt
+  with-complete w =
+      record {
+        size = length-setNth (o .speakers) s (withReceiversAt (copiesOf L o s) i m) ∙ w .size;
+        each = λ s′. ⊎-elim
+            (λ e. ap (λ (c : Copies). length (c .receivers)) e ∙ w .each s′)
+            (λ e. ap (λ (c : Copies). length (c .receivers)) (e .1)
+            ∙ length-setNth (copiesOf L o s .receivers) i m
+            ∙ w .each s)
+            (copies-with s′);
+      }
+
+  with-here : Complete L o → isBoard L s ≡ true → isIdentifier (L .identifiers) i ≡ true
+      → receivers L (withReceivers L o s i m) s i ≡ m
+  unfolding receivers receiversAt copiesOf withReceivers withCopies withReceiversAt
+  with-here w b h =
+      ap
+      (λ (c : Copies). receiversAt c i)
+      (nth-set-same
+      (o .speakers)
+      s
+      (withReceiversAt (copiesOf L o s) i m)
+      (noCopies L)
+      (board-low L s b)
+      (omega (arith, w .size, board-high L s b)))
+      ∙ nth-set-same
+      (copiesOf L o s .receivers)
+      i
+      m
+      0
+      (identifier-low (L .identifiers) i h)
+      (omega (arith, w .each s, identifier-high (L .identifiers) i h))
+
+  with-there : (s′ i′ : ℕ) → (s′ ≡ s → i′ ≡ i → ⊥)
+      → receivers L (withReceivers L o s i m) s′ i′ ≡ receivers L o s′ i′
+  unfolding receivers receiversAt withReceiversAt
+  with-there s′ i′ h =
+      ⊎-elim
+      (λ e. ap (λ (c : Copies). receiversAt c i′) e)
+      (λ e. ap (λ (c : Copies). receiversAt c i′) (e .1)
+      ∙ nth-set-other (copiesOf L o s .receivers) i′ i m 0 (h (e .0))
+      ∙ ap (λ (t : ℕ). receivers L o t i′) (sym (e .0)))
+      (copies-with s′)
+
+  with-nobody : length (o .speakers) ≡ L .boards → isBoard L s ≡ false → withReceivers L o s i m ≡ o
+  unfolding withReceivers withCopies
+  with-nobody n h =
+      ap
+      (λ (cs : List Copies). record { speakers = cs })
+      (setNth-none (o .speakers) s (withReceiversAt (copiesOf L o s) i m) (λ l. omega (arith, board-out L s h l)))
+
+  with-outside : Complete L o → isIdentifier (L .identifiers) i ≡ false → withReceivers L o s i m ≡ o
+  unfolding withReceivers withCopies withReceiversAt copiesOf
+  with-outside w h =
+      ap
+      (λ (rs : List ℕ). withCopies o s (record { receivers = rs }))
+      (setNth-none
+      (copiesOf L o s .receivers)
+      i
+      m
+      (λ l. omega (arith, w .each s, identifier-out (L .identifiers) i h l)))
+      ∙ ap (λ (cs : List Copies). record { speakers = cs }) (set-back (o .speakers) s (noCopies L))
+
+-- after s signed under i: its set there is what the definition says, and no other changes
+module _ (L : Limits) (o : Owed) (s i sound have : ℕ) where
+  pub after-signing-complete : Complete L o → Complete L (afterSigning L o s i sound have)
+  unfolding afterSigning
+  after-signing-complete = with-complete L o s i _
+
+  pub signing-here : Complete L o → isBoard L s ≡ true → isIdentifier (L .identifiers) i ≡ true
+      → receivers L (afterSigning L o s i sound have) s i
+      ≡ setOf bits (λ (k : ℕ). inSet (receivers L o s i) k or lacks sound have s k)
+  unfolding afterSigning
+  signing-here = with-here L o s i _
+
+  pub signing-there : (s′ i′ : ℕ) → (s′ ≡ s → i′ ≡ i → ⊥)
+      → receivers L (afterSigning L o s i sound have) s′ i′ ≡ receivers L o s′ i′
+  unfolding afterSigning
+  signing-there = with-there L o s i _
+
+  pub signing-nobody : length (o .speakers) ≡ L .boards → isBoard L s ≡ false → afterSigning L o s i sound have ≡ o
+  unfolding afterSigning
+  signing-nobody = with-nobody L o s i _
+
+  pub signing-outside : Complete L o → isIdentifier (L .identifiers) i ≡ false → afterSigning L o s i sound have ≡ o
+  unfolding afterSigning
+  signing-outside = with-outside L o s i _
+
+-- after board j delivered what s said under i, the same
+module _ (L : Limits) (o : Owed) (j s i sound have : ℕ) where
+  pub after-delivery-complete : Complete L o → Complete L (afterDelivery L o j s i sound have)
+  unfolding afterDelivery
+  after-delivery-complete = with-complete L o s i _
+
+  pub delivery-here : Complete L o → isBoard L s ≡ true → isIdentifier (L .identifiers) i ≡ true
+      → receivers L (afterDelivery L o j s i sound have) s i
+      ≡ setOf bits (λ (k : ℕ). neg (eqb k j) and (inSet (receivers L o s i) k or lacks sound have s k))
+  unfolding afterDelivery
+  delivery-here = with-here L o s i _
+
+  pub delivery-there : (s′ i′ : ℕ) → (s′ ≡ s → i′ ≡ i → ⊥)
+      → receivers L (afterDelivery L o j s i sound have) s′ i′ ≡ receivers L o s′ i′
+  unfolding afterDelivery
+  delivery-there = with-there L o s i _
+
+  pub delivery-nobody : length (o .speakers) ≡ L .boards → isBoard L s ≡ false
+      → afterDelivery L o j s i sound have ≡ o
+  unfolding afterDelivery
+  delivery-nobody = with-nobody L o s i _
+
+  pub delivery-outside : Complete L o → isIdentifier (L .identifiers) i ≡ false
+      → afterDelivery L o j s i sound have ≡ o
+  unfolding afterDelivery
+  delivery-outside = with-outside L o s i _
+
+-- the sets in these definitions, made of sets
+and-assoc : (a b c : Bool) → ((a and b) and c) ≡ (a and b and c)
+unfolding _and_
+and-assoc true b c = refl
+and-assoc false b c = refl
+
+and-comm : (a b : Bool) → (a and b) ≡ (b and a)
+unfolding _and_
+and-comm true true = refl
+and-comm true false = refl
+and-comm false true = refl
+and-comm false false = refl
+
+pub signing-set : (m s sound have : ℕ)
+    → union m (minus (withoutBoard sound s) have) ≡ setOf bits (λ (k : ℕ). inSet m k or lacks sound have s k)
+unfolding union lacks
+signing-set m s sound have =
+    set-cong
+    bits
+    (λ (k : ℕ). inSet m k or inSet (minus (withoutBoard sound s) have) k)
+    (λ (k : ℕ). inSet m k or lacks sound have s k)
+    (λ k l h. ap
+    (λ (b : Bool). inSet m k or b)
+    (in-minus (withoutBoard sound s) have k l h
+    ∙ ap (λ (b : Bool). b and neg (inSet have k)) (in-without sound s k l h)
+    ∙ and-assoc (inSet sound k) (neg (eqb k s)) (neg (inSet have k))))
+
+pub delivery-set : (m j s sound have : ℕ)
+    → withoutBoard (union m (minus (withoutBoard sound s) have)) j
+    ≡ setOf bits (λ (k : ℕ). neg (eqb k j) and (inSet m k or lacks sound have s k))
+unfolding withoutBoard
+delivery-set m j s sound have =
+    set-cong
+    bits
+    (λ (k : ℕ). inSet (union m (minus (withoutBoard sound s) have)) k and neg (eqb k j))
+    (λ (k : ℕ). neg (eqb k j) and (inSet m k or lacks sound have s k))
+    (λ k l h. and-comm (inSet (union m (minus (withoutBoard sound s) have)) k) (neg (eqb k j))
+    ∙ ap
+    (λ (b : Bool). neg (eqb k j) and b)
+    (ap (λ (x : ℕ). inSet x k) (signing-set m s sound have)
+    ∙ in-setOf-within bits (λ (k : ℕ). inSet m k or lacks sound have s k) k l h))

@@ -1,0 +1,309 @@
+-- What the program carries over the rounds stands for what is allowed. Assumes nothing.
+use Prim.Native.Nat.{ℕ, zero, suc, _+_, _-_, _≤_, min, _^_, _<_}
+use native.Mathlib.Omega.{arith}
+use mathlib.Core.Path.{_≡_, refl, sym, ap, fun-ext, _∙_}
+use mathlib.Core.Bool.{Bool, true, false, true≢false}
+use mathlib.Core.Logic.{_⊎_, inl, inr, ⊎-elim}
+use mathlib.Core.List.{List, [], List·Memᴰ·not-nil}
+use borrow.Author.Tests.{eqb-true, eqb-false, eq-eqb, ne-eqb, leb-true, leb-false, le-leb}
+use lib.Dec.{eqb, leb}
+use lib.ListN.{length}
+use Rattle.signer.specs.Choice.{if_then_else_}
+use Rattle.signer.specs.Log.{entryOf}
+use Rattle.signer.proofs.ChoiceLaws.{if-elim}
+use Rattle.delivery.specs.Tests.{_and_, _or_, neg}
+use Rattle.delivery.specs.Counting.{countIn}
+use Rattle.delivery.specs.Limits.{Limits}
+use Rattle.delivery.specs.Bus.{isBoard, quorum, overlap}
+use Rattle.delivery.specs.Rounds.{identifierOf}
+use Rattle.delivery.specs.Sets.{setOf, bits}
+use Rattle.delivery.specs.Delivered.{Store, heard}
+use Rattle.delivery.specs.Acceptance.{says, bears, allowedAfter, allowed}
+use Rattle.delivery.specs.Allowance.{among}
+use Rattle.delivery.specs.declared.delivered.Delivered.{Delivered}
+use Rattle.delivery.specs.declared.round.Phase.the-variants.{Ballot}
+use Rattle.delivery.proofs.BoardLaws.{board-high}
+use Rattle.delivery.proofs.CountLaws.{count-cong}
+use Rattle.delivery.proofs.SetLaws.{set-cong, set-beyond, set-fits}
+use Rattle.delivery.proofs.ChoosingLaws.{none}
+use Rattle.delivery.proofs.DeliveredLaws.{heard-nobody}
+use Rattle.delivery.proofs.TestLaws.{and-left, and-right, and-in, or-cases, or-left, or-right, same-test, fails, decided}
+use Rattle.delivery.proofs.AcceptanceLaws.{Opens, after-reads, openingEntry, reads-after, says-bears, says-entry, says-value, some-value, value-says, value-some, ballotEntry, bears-reads}
+use Rattle.delivery.proofs.RoundsLaws.{allowed-first, allowed-next, says-none}
+use Rattle.delivery.proofs.SingleStoreLaws.{after-was}
+use Rattle.delivery.proofs.AllowanceLaws.{Opened, backs, blank, backing, carries-counts, many-allowed, few-allowed}
+
+-- a number that no board can have bears nothing
+module _ (L : Limits) (d : Delivered) (r : ℕ) (size : length (d .logs) ≡ L .boards) where
+  silent : (s : ℕ) → L .boards < s → ballotEntry L (heard L d) r s ≡ 0
+  silent s l =
+      heard-nobody L d s (identifierOf L Ballot r) size (fails (isBoard L s) (λ b. omega (arith, board-high L s b)))
+
+  bears-nobody : (w s : ℕ) → L .boards < s → bears L (heard L d) r w s ≡ false
+  bears-nobody w s l =
+      fails (bears L (heard L d) r w s) (λ b. omega (arith, silent s l, bears-reads L (heard L d) r w s b))
+
+  -- so a search among the boards that there can be finds all of 1 to n whose ballots have an entry
+  pub bearing-found : (n x : ℕ) → (x ≡ 0 → ⊥)
+      → setOf (min n (L .boards)) (λ (s : ℕ). eqb (ballotEntry L (heard L d) r s) x)
+      ≡ setOf n (λ (s : ℕ). says x (λ (w : ℕ). bears L (heard L d) r w s))
+  bearing-found n x z =
+      sym
+      (set-cong n _ _ (λ s l u. says-bears L (heard L d) r x s z)
+      ∙ set-beyond
+      n
+      (L .boards)
+      (λ (s : ℕ). eqb (ballotEntry L (heard L d) r s) x)
+      (λ s l. ne-eqb (ballotEntry L (heard L d) r s) x (λ q. z (sym q ∙ silent s l))))
+
+  -- and two such sets, joined, fit into one
+  pub bearing-fits : (n x : ℕ) → L .boards ≤ bits
+      → setOf n (λ (s : ℕ). bears L (heard L d) r 0 s or says x (λ (w : ℕ). bears L (heard L d) r w s)) < 2 ^ bits
+  unfolding _or_
+  bearing-fits n x l =
+      set-fits
+      n
+      (L .boards)
+      (λ (s : ℕ). bears L (heard L d) r 0 s or says x (λ (w : ℕ). bears L (heard L d) r w s))
+      (λ s g. rw (bears-nobody 0 s g) (says-none x (λ (w : ℕ). bears L (heard L d) r w s) (λ w. bears-nobody w s g)))
+      l
+
+-- an allowance lets every value pass, or the one of its entry
+pub among-reads : (a w : ℕ) → among a w ≡ true → (w ≡ 0 → ⊥) × ((a ≡ 1) ⊎ (a ≡ entryOf w))
+unfolding among
+among-reads a w t = (
+  some-value w (and-left (neg (eqb w 0)) (eqb a 1 or eqb a (entryOf w)) t),
+  ⊎-elim
+      (λ (e : eqb a 1 ≡ true). inl (eqb-true a 1 e))
+      (λ (e : eqb a (entryOf w) ≡ true). inr (eqb-true a (entryOf w) e))
+      (or-cases (eqb a 1) (eqb a (entryOf w)) (and-right (neg (eqb w 0)) (eqb a 1 or eqb a (entryOf w)) t)),
+)
+
+pub reads-among : (a w : ℕ) → (w ≡ 0 → ⊥) → (a ≡ 1) ⊎ (a ≡ entryOf w) → among a w ≡ true
+unfolding among
+reads-among a w z e =
+    and-in
+    (neg (eqb w 0))
+    (eqb a 1 or eqb a (entryOf w))
+    (value-some w z)
+    (⊎-elim
+    (λ (p : a ≡ 1). or-left (eqb a 1) (eqb a (entryOf w)) (eq-eqb a 1 p))
+    (λ (p : a ≡ entryOf w). or-right (eqb a 1) (eqb a (entryOf w)) (eq-eqb a (entryOf w) p))
+    e)
+
+-- so an entry of a value passes, which is 2 or more, and no other does
+pub says-among : (a x : ℕ) → 2 ≤ x → (a ≡ 1) ⊎ (a ≡ x) → says x (among a) ≡ true
+says-among a x l o =
+    let e : x ≡ entryOf (x - 1) = omega arith in
+    value-says
+    x
+    (x - 1)
+    (among a)
+    e
+    (reads-among a (x - 1) (λ z. omega arith) (⊎-elim (λ (p : a ≡ 1). inl p) (λ (p : a ≡ x). inr (p ∙ e)) o))
+
+pub says-not-among : (a x : ℕ) → (2 ≤ x → (a ≡ 1) ⊎ (a ≡ x) → ⊥) → says x (among a) ≡ false
+says-not-among a x f =
+    fails
+    (says x (among a))
+    (λ t.
+    let y = says-value x (among a) t in
+    let m = among-reads a (y .0) (y .2) in
+    f
+    (omega (arith, y .1, m .0))
+    (⊎-elim (λ (p : a ≡ 1). inl p) (λ (p : a ≡ entryOf (y .0)). inr (p ∙ sym (y .1))) (m .1)))
+
+-- where not every value passes, the one of its entry does
+pub only-among : (a x : ℕ) → 2 ≤ x → (a ≡ 1 → ⊥) → eqb a x ≡ says x (among a)
+only-among a x l f =
+    same-test
+    (eqb a x)
+    (says x (among a))
+    (λ t. says-among a x l (inr (eqb-true a x t)))
+    (λ t. go (decided (eqb a x)) t)
+  where
+    go : (eqb a x ≡ true) ⊎ (eqb a x ≡ false) → says x (among a) ≡ true → eqb a x ≡ true
+    go (inl e) t = e
+    go (inr e) t =
+        absurd
+        (true≢false
+        (sym t ∙ says-not-among a x (λ l′ o. ⊎-elim (λ (p : a ≡ 1). f p) (λ (p : a ≡ x). eqb-false a x e p) o)))
+
+-- one round of a bus that has boards: what is carried on from `before`
+module _ (L : Limits) (n : ℕ) (h : Store) (before r x : ℕ) (o : Opened L n h (among before) r x) (some : 1 ≤ n) where
+  abbrev few : Bool
+  few = leb (quorum n) (blank L n h r + min (backing L n h r x) (overlap n - 1))
+
+  abbrev many : Bool
+  many =
+      leb (quorum n) (blank L n h r + backing L n h r x)
+      and leb (overlap n) (backing L n h r x)
+
+  -- a value that is allowed next, by the counts
+  counted : (w : ℕ) → allowedAfter L n h (among before) r w ≡ true
+      → (w ≡ 0 → ⊥) × (((x ≡ entryOf w) × (many ≡ true)) ⊎ (few ≡ true))
+  counted w a =
+      let y = after-reads L n h (among before) r w a in (
+        y .value,
+        ⊎-elim
+            (λ k.
+            inl (
+              k .0,
+              and-in
+                  (leb (quorum n) (blank L n h r + backing L n h r x))
+                  (leb (overlap n) (backing L n h r x))
+                  (le-leb _ _ (k .1))
+                  (le-leb _ _ (k .2)),
+            ))
+            (λ k. inr (le-leb _ _ (k .0)))
+            (carries-counts L n h (among before) r x o w (y .speakers) some (y .value) (omega (arith, y .size)) (y .carries)),
+      )
+
+  kept : few ≡ true → (w : ℕ) → among before w ≡ allowedAfter L n h (among before) r w
+  kept f w =
+      same-test
+      (among before w)
+      (allowedAfter L n h (among before) r w)
+      (λ m. few-allowed L n h (among before) r x o w some (among-reads before w m .0) (leb-true _ _ f) m)
+      (λ a. after-was L n h (among before) r some w a)
+
+  narrowed : few ≡ false → many ≡ true → (w : ℕ) → among x w ≡ allowedAfter L n h (among before) r w
+  narrowed f m w =
+      same-test
+      (among x w)
+      (allowedAfter L n h (among before) r w)
+      (λ a.
+      let y = among-reads x w a in
+      many-allowed
+      L
+      n
+      h
+      (among before)
+      r
+      x
+      o
+      w
+      (y .0)
+      (⊎-elim (λ (e : x ≡ 1). absurd (o .sound 0 e .value refl)) (λ (e : x ≡ entryOf w). e) (y .1))
+      (leb-true _ _ (and-left (leb (quorum n) (blank L n h r + backing L n h r x)) _ m))
+      (leb-true _ _ (and-right (leb (quorum n) (blank L n h r + backing L n h r x)) _ m)))
+      (λ a.
+      let y = counted w a in
+      reads-among x w (y .0) (⊎-elim (λ k. inr (k .0)) (λ (k : few ≡ true). absurd (true≢false (sym k ∙ f))) (y .1)))
+
+  emptied : few ≡ false → many ≡ false → (w : ℕ) → among 0 w ≡ allowedAfter L n h (among before) r w
+  emptied f m w =
+      same-test
+      (among 0 w)
+      (allowedAfter L n h (among before) r w)
+      (λ a. absurd (⊎-elim (λ (e : 0 ≡ 1). omega arith) (λ (e : 0 ≡ entryOf w). omega arith) (among-reads 0 w a .1)))
+      (λ a.
+      absurd
+      (⊎-elim
+      (λ k. true≢false (sym (k .1) ∙ m))
+      (λ (k : few ≡ true). true≢false (sym k ∙ f))
+      (counted w a .1)))
+
+  pub settled-next : (w : ℕ) → among (if few then before else (if many then x else 0)) w ≡ allowedAfter L n h (among before) r w
+  settled-next w =
+      if-elim
+      (λ (a : ℕ). among a w ≡ allowedAfter L n h (among before) r w)
+      few
+      before
+      (if many then x else 0)
+      (λ f. kept f w)
+      (λ f.
+      if-elim
+      (λ (a : ℕ). among a w ≡ allowedAfter L n h (among before) r w)
+      many
+      x
+      0
+      (λ m. narrowed f m w)
+      (λ m. emptied f m w))
+
+-- the opening that counts, where `before` is what is allowed
+module _ (L : Limits) (n : ℕ) (h : Store) (before r : ℕ) where
+  abbrev entry : ℕ
+  entry = openingEntry L n h (among before) r
+
+  pub opened-entry : Opened L n h (among before) r (if says entry (among before) then entry else 0)
+  opened-entry =
+      if-elim
+      (λ (x : ℕ). Opened L n h (among before) r x)
+      (says entry (among before))
+      entry
+      0
+      (λ t. record { sound = λ w e. opens t w e; complete = λ w o. o .said })
+      (λ t.
+      record {
+        sound = λ w e. absurd (omega arith);
+        complete = λ w o. absurd (true≢false (sym (value-says entry w (among before) (o .said) (o .permitted)) ∙ t));
+      })
+    where
+      opens : says entry (among before) ≡ true → (w : ℕ) → entry ≡ entryOf w → Opens L n h (among before) r w
+      opens t w e =
+          let y = says-value entry (among before) t in
+          let same : y .0 ≡ w = omega (arith, y .1) in
+          let m : among before w ≡ true = rw same at (y .2) in
+          record { said = e; value = among-reads before w m .0; permitted = m }
+
+-- a round as the program goes through it: the opening's entry x, b blank ballots and c for the opening's value
+-- leave the allowance a
+module _ (L : Limits) (n : ℕ) (h : Store) (before r x b c a : ℕ) where
+  pub record Counted : Type 0 where
+    pub opening : x ≡ (if says (openingEntry L n h (among before) r) (among before) then openingEntry L n h (among before) r else 0)
+    pub blanks : b ≡ countIn n (λ (s : ℕ). says (entryOf 0) (λ (w : ℕ). bears L h r w s))
+    pub backers : c ≡ countIn n (λ (s : ℕ). says x (λ (w : ℕ). bears L h r w s))
+    pub left : a ≡ (if leb (quorum n) (b + min c (overlap n - 1)) then before else (if leb (quorum n) (b + c) and leb (overlap n) c then x else 0))
+
+  pub counted-next : Counted → 1 ≤ n → (w : ℕ) → among a w ≡ allowedAfter L n h (among before) r w
+  unfolding backs
+  counted-next k some w =
+      let o : Opened L n h (among before) r x = rw (k .opening) (opened-entry L n h before r) in
+      let e : countIn n (λ (s : ℕ). says (entryOf 0) (λ (v : ℕ). bears L h r v s)) ≡ countIn n (bears L h r 0) =
+      count-cong n _ _ (λ s l u. says-entry 0 (λ (v : ℕ). bears L h r v s)) in
+      rw (k .left, k .blanks ∙ e, k .backers) (settled-next L n h before r x o some w)
+
+-- on a bus without boards no ballot is asked for
+pub nobody-next : (L : Limits) (n : ℕ) (h : Store) (before r : ℕ) → n ≡ 0 → (w : ℕ)
+    → among 1 w ≡ allowedAfter L n h (among before) r w
+nobody-next L n h before r e w =
+    rw
+    e
+    (same-test
+    (among 1 w)
+    (allowedAfter L 0 h (among before) r w)
+    (λ m.
+    reads-after
+    L
+    0
+    h
+    (among before)
+    r
+    w
+    (record {
+      value = among-reads 1 w m .0;
+      speakers = [];
+      size = refl;
+      carries = record { choice = none; counted = λ s k. absurd (List·Memᴰ·not-nil k); reason = inl (omega arith) };
+    }))
+    (λ t. reads-among 1 w (after-reads L 0 h (among before) r w t .value) (inl refl)))
+
+-- the pass begins with every value, and each turn goes on from what is allowed
+pub every-first : (L : Limits) (n : ℕ) (h : Store) (w : ℕ) → among 1 w ≡ allowed L n h 1 w
+every-first L n h w =
+    same-test
+    (among 1 w)
+    (allowed L n h 1 w)
+    (λ m. rw allowed-first (value-some w (among-reads 1 w m .0)))
+    (λ a. reads-among 1 w (some-value w (rw allowed-first at a)) (inl refl))
+
+pub next-allowed : (L : Limits) (n : ℕ) (h : Store) (a b r : ℕ) → 1 ≤ r → ((w : ℕ) → among a w ≡ allowed L n h r w)
+    → ((w : ℕ) → among b w ≡ allowedAfter L n h (among a) r w) → (w : ℕ) → among b w ≡ allowed L n h (r + 1) w
+next-allowed L n h a b r l f g w =
+    g w ∙ ap (λ (may : ℕ → Bool). allowedAfter L n h may r w) (fun-ext f) ∙ sym (allowed-next L n h r w l)
+
+-- and ends with what is allowed in the last
+pub says-allowed : (L : Limits) (n : ℕ) (h : Store) (a r r′ x : ℕ) → ((w : ℕ) → among a w ≡ allowed L n h r w) → r ≡ r′
+    → says x (among a) ≡ says x (allowed L n h r′)
+says-allowed L n h a r r′ x f e = ap (says x) (fun-ext f) ∙ ap (λ (m : ℕ). says x (allowed L n h m)) e

@@ -1,0 +1,182 @@
+-- Laws of what is allowed from round to round, and of acceptance by it. Assumes nothing.
+use Prim.Native.Nat.{ℕ, zero, suc, _+_, _≤_, _<_}
+use native.Mathlib.Omega.{arith}
+use native.Mathlib.Numerals.{add-one}
+use mathlib.Core.Path.{_≡_, refl, sym, ap, _∙_}
+use mathlib.Core.Bool.{Bool, true, false, true≢false}
+use mathlib.Core.Logic.{_⊎_, inl, inr, ⊎-elim}
+use lib.Dec.{eqb}
+use Rattle.signer.specs.Log.{entryOf}
+use Rattle.delivery.specs.Tests.{neg, _or_}
+use Rattle.delivery.specs.Limits.{Limits}
+use Rattle.delivery.specs.Delivered.{Store}
+use Rattle.delivery.specs.Acceptance.{says, bears, opens, counts, countsSome, allowedAfter, allowed, acceptsOpening, acceptsBallot, acceptsSome}
+use Rattle.delivery.proofs.TestLaws.{fails, decided, same-test, or-cases, or-left, or-right}
+use Rattle.delivery.proofs.AcceptanceLaws.{ballotEntry, says-value, value-says, openingEntry, Opens, opens-reads, reads-opens, bears-reads, reads-bears, counts-reads, reads-counts, some-reads, reads-some, ballot-opened, after-reads}
+
+module _ (L : Limits) (n : ℕ) (h : Store) where
+  -- nothing is allowed in round 0, every value in round 1, and in a later one what the one before leaves
+  pub allowed-none : (w : ℕ) → allowed L n h 0 w ≡ false
+  unfolding allowed
+  allowed-none w = refl
+
+  pub allowed-first : (w : ℕ) → allowed L n h 1 w ≡ neg (eqb w 0)
+  unfolding allowed
+  allowed-first w = refl
+
+  pub allowed-next : (r w : ℕ) → 1 ≤ r → allowed L n h (r + 1) w ≡ allowedAfter L n h (allowed L n h r) r w
+  unfolding allowed
+  allowed-next zero w l = absurd (omega arith)
+  allowed-next (suc r) w l = ap (λ (m : ℕ). allowed L n h m w) (add-one (suc r))
+
+  -- the blank never
+  pub allowed-blank : (r : ℕ) → allowed L n h r 0 ≡ false
+  unfolding allowed neg
+  allowed-blank zero = refl
+  allowed-blank (suc zero) = refl
+  allowed-blank (suc (suc r)) =
+      fails (allowed L n h (suc (suc r)) 0) (λ t. after-reads L n h (allowed L n h (suc r)) (suc r) 0 t .value refl)
+
+-- an entry of nothing or of the blank says nothing of values
+pub says-low : (x : ℕ) (p : ℕ → Bool) → x < 2 → p 0 ≡ false → says x p ≡ false
+unfolding says
+says-low zero p l e = refl
+says-low (suc zero) p l e = e
+says-low (suc (suc w)) p l e = absurd (omega arith)
+
+pub says-none : (x : ℕ) (p : ℕ → Bool) → ((w : ℕ) → p w ≡ false) → says x p ≡ false
+unfolding says
+says-none zero p f = refl
+says-none (suc w) p f = f w
+
+-- acceptance in a round
+module _ (L : Limits) (n : ℕ) (h : Store) (r : ℕ) where
+  abbrev may : ℕ → Bool
+  may = allowed L n h r
+
+  -- an opening is accepted that was sent by the coordinator, if its value is allowed
+  pub opening-sent : (w : ℕ) → openingEntry L n h may r ≡ entryOf w → acceptsOpening L n h r w ≡ allowed L n h r w
+  unfolding acceptsOpening
+  opening-sent w e =
+      same-test
+      (opens L n h may r w)
+      (may w)
+      (λ o. opens-reads L n h may r w o .permitted)
+      (λ a. reads-opens L n h may r w (record { said = e; value = λ z. blank z a; permitted = a }))
+    where
+      blank : w ≡ 0 → may w ≡ true → ⊥
+      blank z a = true≢false (sym a ∙ ap may z ∙ allowed-blank L n h r)
+
+  pub opening-unsent : (w : ℕ) → (openingEntry L n h may r ≡ entryOf w → ⊥) → acceptsOpening L n h r w ≡ false
+  unfolding acceptsOpening
+  opening-unsent w f = fails (opens L n h may r w) (λ o. f (opens-reads L n h may r w o .said))
+
+  -- a ballot is accepted that was sent, if it is blank or its opening is accepted
+  pub ballot-sent : (s w : ℕ) → (w ≡ 0) ⊎ (acceptsOpening L n h r w ≡ true) → acceptsBallot L n h r s w ≡ bears L h r w s
+  unfolding acceptsBallot acceptsOpening
+  ballot-sent s w o =
+      same-test
+      (counts L n h may r w s)
+      (bears L h r w s)
+      (λ b. reads-bears L h r w s (counts-reads L n h may r w s b .said))
+      (λ b.
+      reads-counts
+      L
+      n
+      h
+      may
+      r
+      w
+      s
+      (record {
+        said = bears-reads L h r w s b;
+        backed = ⊎-elim (λ (z : w ≡ 0). inl z) (λ (p : opens L n h may r w ≡ true). inr (opens-reads L n h may r w p)) o;
+      }))
+
+  pub ballot-unopened : (s w : ℕ) → (w ≡ 0 → ⊥) → acceptsOpening L n h r w ≡ false → acceptsBallot L n h r s w ≡ false
+  unfolding acceptsBallot acceptsOpening
+  ballot-unopened s w z o =
+      fails
+      (counts L n h may r w s)
+      (λ b.
+      true≢false
+      (sym (reads-opens L n h may r w (ballot-opened L n h may r w s z (counts-reads L n h may r w s b))) ∙ o))
+
+  pub ballot-unsent : (s w : ℕ) → (ballotEntry L h r s ≡ entryOf w → ⊥) → acceptsBallot L n h r s w ≡ false
+  unfolding acceptsBallot
+  ballot-unsent s w f = fails (counts L n h may r w s) (λ b. f (counts-reads L n h may r w s b .said))
+
+  pub ballot-value : (s w : ℕ) → ballotEntry L h r s ≡ entryOf w → (w ≡ 0 → ⊥) → acceptsBallot L n h r s w ≡ acceptsOpening L n h r w
+  ballot-value s w e z = go (decided (acceptsOpening L n h r w))
+    where
+      go : (acceptsOpening L n h r w ≡ true) ⊎ (acceptsOpening L n h r w ≡ false) → acceptsBallot L n h r s w ≡ acceptsOpening L n h r w
+      go (inl o) = ballot-sent s w (inr o) ∙ reads-bears L h r w s e ∙ sym o
+      go (inr o) = ballot-unopened s w z o ∙ sym o
+
+  -- what is accepted of s is blank, or bears the value of the coordinator's opening where that is allowed
+  pub some-unopened : (s : ℕ) → says (openingEntry L n h may r) may ≡ false → acceptsSome L n h r s ≡ bears L h r 0 s
+  unfolding acceptsSome
+  some-unopened s o =
+      same-test
+      (countsSome L n h may r s)
+      (bears L h r 0 s)
+      (λ b.
+      let x = some-reads L n h may r s b in
+      ⊎-elim
+      (λ (z : x .0 ≡ 0). reads-bears L h r 0 s (x .1 .said ∙ ap entryOf z))
+      (λ (p : Opens L n h may r (x .0)).
+      absurd (true≢false (sym (value-says (openingEntry L n h may r) (x .0) may (p .said) (p .permitted)) ∙ o)))
+      (x .1 .backed))
+      (λ b. reads-some L n h may r 0 s (record { said = bears-reads L h r 0 s b; backed = inl refl }))
+
+  pub some-opened-or : (s : ℕ) → says (openingEntry L n h may r) may ≡ true
+      → acceptsSome L n h r s ≡ (bears L h r 0 s or says (openingEntry L n h may r) (λ (w : ℕ). bears L h r w s))
+  unfolding acceptsSome
+  some-opened-or s o =
+      same-test
+      (countsSome L n h may r s)
+      (bears L h r 0 s or says (openingEntry L n h may r) (λ (w : ℕ). bears L h r w s))
+      (λ b.
+      let x = some-reads L n h may r s b in
+      ⊎-elim
+      (λ (z : x .0 ≡ 0).
+      or-left
+      (bears L h r 0 s)
+      (says (openingEntry L n h may r) (λ (w : ℕ). bears L h r w s))
+      (reads-bears L h r 0 s (x .1 .said ∙ ap entryOf z)))
+      (λ (p : Opens L n h may r (x .0)).
+      or-right
+      (bears L h r 0 s)
+      (says (openingEntry L n h may r) (λ (w : ℕ). bears L h r w s))
+      (value-says
+      (openingEntry L n h may r)
+      (x .0)
+      (λ (w : ℕ). bears L h r w s)
+      (p .said)
+      (reads-bears L h r (x .0) s (x .1 .said))))
+      (x .1 .backed))
+      (λ b.
+      ⊎-elim
+      (λ (c : bears L h r 0 s ≡ true). reads-some L n h may r 0 s (record { said = bears-reads L h r 0 s c; backed = inl refl }))
+      (λ (c : says (openingEntry L n h may r) (λ (w : ℕ). bears L h r w s) ≡ true). backed c)
+      (or-cases (bears L h r 0 s) (says (openingEntry L n h may r) (λ (w : ℕ). bears L h r w s)) b))
+    where
+      sent : (w : ℕ) → openingEntry L n h may r ≡ entryOf w → may w ≡ true → opens L n h may r w ≡ true
+      sent w e a =
+          reads-opens
+          L
+          n
+          h
+          may
+          r
+          w
+          (record { said = e; value = λ z. true≢false (sym a ∙ ap may z ∙ allowed-blank L n h r); permitted = a })
+
+      backed : says (openingEntry L n h may r) (λ (w : ℕ). bears L h r w s) ≡ true → countsSome L n h may r s ≡ true
+      backed c =
+          let x = says-value (openingEntry L n h may r) (λ (w : ℕ). bears L h r w s) c in
+          let y = says-value (openingEntry L n h may r) may o in
+          let e : y .0 ≡ x .0 = omega (arith, x .1, y .1) in
+          let a : allowed L n h r (x .0) ≡ true = rw e at (y .2) in
+          let p : Opens L n h may r (x .0) = opens-reads L n h may r (x .0) (sent (x .0) (x .1) a) in
+          reads-some L n h may r (x .0) s (record { said = bears-reads L h r (x .0) s (x .2); backed = inr p })

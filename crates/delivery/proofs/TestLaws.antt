@@ -1,0 +1,67 @@
+-- Laws of joined tests. Assumes nothing.
+use mathlib.Core.Path.{_≡_, refl, sym}
+use mathlib.Core.Bool.{Bool, true, false, true≢false}
+use mathlib.Core.Logic.{_⊎_, inl, inr}
+use Rattle.delivery.specs.Tests.{_and_, _or_, neg}
+
+pub and-left : (a b : Bool) → (a and b) ≡ true → a ≡ true
+unfolding _and_
+and-left true b h = refl
+and-left false b h = h
+
+pub and-right : (a b : Bool) → (a and b) ≡ true → b ≡ true
+unfolding _and_
+and-right true b h = h
+and-right false true h = refl
+and-right false false h = h
+
+pub and-in : (a b : Bool) → a ≡ true → b ≡ true → (a and b) ≡ true
+unfolding _and_
+and-in true b p q = q
+and-in false b p q = p
+
+pub and-no-left : (a b : Bool) → a ≡ false → (a and b) ≡ false
+unfolding _and_
+and-no-left a b h = rw h
+
+pub or-cases : (a b : Bool) → (a or b) ≡ true → (a ≡ true) ⊎ (b ≡ true)
+unfolding _or_
+or-cases true b h = inl refl
+or-cases false b h = inr h
+
+pub or-left : (a b : Bool) → a ≡ true → (a or b) ≡ true
+unfolding _or_
+or-left true b h = refl
+or-left false true h = refl
+or-left false false h = h
+
+pub or-right : (a b : Bool) → b ≡ true → (a or b) ≡ true
+unfolding _or_
+or-right true b h = refl
+or-right false b h = h
+
+pub neg-true : (a : Bool) → neg a ≡ true → a ≡ false
+unfolding neg
+neg-true true h = absurd (true≢false (sym h))
+neg-true false h = refl
+
+pub neg-in : (a : Bool) → a ≡ false → neg a ≡ true
+unfolding neg
+neg-in true h = absurd (true≢false h)
+neg-in false h = refl
+
+-- two tests that pass together are one
+pub same-test : (a b : Bool) → (a ≡ true → b ≡ true) → (b ≡ true → a ≡ true) → a ≡ b
+same-test true true f g = refl
+same-test true false f g = sym (f refl)
+same-test false true f g = g refl
+same-test false false f g = refl
+
+pub fails : (a : Bool) → (a ≡ true → ⊥) → a ≡ false
+fails true f = absurd (f refl)
+fails false f = refl
+
+-- a test passes or fails
+pub decided : (a : Bool) → (a ≡ true) ⊎ (a ≡ false)
+decided true = inl refl
+decided false = inr refl

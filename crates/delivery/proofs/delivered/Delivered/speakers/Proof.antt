@@ -1,0 +1,94 @@
+-- `Delivered::speakers` meets its contract. The loop's invariant: the set is that of the boards passed.
+-- Assumes nothing.
+use Prim.Native.Nat.{ℕ, suc, _+_, _-_, _≤_, _<_, min}
+use borrow.Author.Needs.{needs}
+use borrow.Author.Tests.{eq-eqb, ne-eqb}
+use native.Mathlib.Numerals.{add-one}
+use native.Mathlib.Omega.{arith}
+use mathlib.Core.Bool.{Bool, true, false}
+use mathlib.Core.Path.{_≡_, refl, sym, ap, _∙_}
+use mathlib.Core.Logic.{⊎-elim}
+use lib.Dec.{eqb}
+use Rattle.delivery.specs.Limits.{limits}
+use Rattle.delivery.specs.Sets.{setOf, bits, withBoard}
+use Rattle.delivery.specs.Delivered.{heard}
+use Rattle.delivery.specs.declared.delivered.Delivered.{Delivered}
+use Rattle.delivery.proofs.SetLaws.{with-next, skip-next}
+use Rattle.delivery.proofs.delivered.Delivered.speakers.Statement.{statement}
+use Rattle.delivery.proofs.delivered.Delivered.speakers.Tie as tie
+
+abbrev speaks : Delivered → ℕ → ℕ → ℕ → Bool
+speaks d i e s = eqb (heard limits d s i) e
+
+-- a turn of the loop takes the next board in, or leaves it out
+turn-in : (k set : ℕ) (p : ℕ → Bool) → set ≡ setOf k p → k < bits → p (k + 1) ≡ true → withBoard set (k + 1) ≡ setOf (k + 1) p
+turn-in k set p e l h = rw (e, add-one k) (with-next k p l (rw add-one at h))
+
+turn-out : (k set : ℕ) (p : ℕ → Bool) → set ≡ setOf k p → p (k + 1) ≡ false → set ≡ setOf (k + 1) p
+turn-out k set p e h = rw (e, add-one k) (skip-next k p (rw add-one at h))
+
+abbrev Inv-loop : tie.InvT-loop
+Inv-loop self n id entry m speakers₀ k₀ speakers k =
+    (m ≡ min n (limits .boards)) × (k ≤ m) × (speakers ≡ setOf k (speaks self (id .0) entry))
+
+abbrev μ-loop : tie.MeasureT-loop
+μ-loop self n id entry m speakers₀ k₀ speakers k = m - k
+
+loop-holds : tie.Need-loop-holds Inv-loop μ-loop
+unfolding setOf
+loop-holds c = (⊎-elim (λ w. omega arith) (λ w. omega arith) (c .if1 .came), omega arith, refl)
+
+add-entry : tie.Need-add-entry Inv-loop μ-loop
+add-entry c = omega arith
+
+entry-requires : tie.Need-entry-requires Inv-loop μ-loop
+entry-requires c κs = search needs
+
+add-with : tie.Need-add-with Inv-loop μ-loop
+add-with c = omega arith
+
+with-requires : tie.Need-with-requires Inv-loop μ-loop
+with-requires c κs = search needs
+
+add-k : tie.Need-add-k Inv-loop μ-loop
+add-k c = omega arith
+
+loop-less : tie.Need-loop-less Inv-loop μ-loop
+loop-less c = omega arith
+
+loop-again : tie.Need-loop-again Inv-loop μ-loop
+loop-again c =
+    let a = c .before .before .before .before .before .args in
+    let i = c .before .before .before .loop in
+    let e = c .before .entry in
+    let within : i .k < bits = omega arith in (
+      i .inv .0,
+      omega arith,
+      ⊎-elim
+          (λ w. w .2 ∙ w .1 .ensures ∙ turn-in (i .k) (i .speakers) (speaks (a .self) (a .id .0) (a .entry)) (i .inv .2) within (eq-eqb _ _ (sym (e .ensures) ∙ w .0 .taken)))
+          (λ w. w .1 ∙ turn-out (i .k) (i .speakers) (speaks (a .self) (a .id .0) (a .entry)) (i .inv .2) (ne-eqb _ _ (λ h. w .0 .left (e .ensures ∙ h))))
+          (c .if2 .came),
+    )
+
+returns : tie.Need-returns Inv-loop μ-loop
+returns c =
+    let i = c .before .loop .inv in
+    let e : c .before .loop .k ≡ min (c .before .before .before .args .n) (limits .boards) = omega (arith, i .0) in
+    let a = c .before .before .before .args in
+    i .2 ∙ ap (λ (m : ℕ). setOf m (speaks (a .self) (a .id .0) (a .entry))) e
+
+pub speakers-spec : {M : Type 1} → statement M
+speakers-spec =
+    tie.close
+    (tie.spec
+    Inv-loop
+    μ-loop
+    loop-holds
+    add-entry
+    entry-requires
+    add-with
+    with-requires
+    add-k
+    loop-less
+    loop-again
+    returns)

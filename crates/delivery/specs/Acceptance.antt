@@ -1,0 +1,76 @@
+-- Document 01, "What a board accepts", by a store of what it has delivered.
+use Prim.Native.Nat.{ℕ, zero, suc}
+use mathlib.Core.Bool.{Bool, false}
+use mathlib.Core.List.{List}
+use lib.Dec.{eqb, leb, ltb}
+use lib.ListN.{length}
+use Rattle.signer.specs.Log.{entryOf}
+use Rattle.delivery.specs.Tests.{_and_, _or_, neg}
+use Rattle.delivery.specs.Counting.{countOf, everyOf, someOf}
+use Rattle.delivery.specs.Limits.{Limits}
+use Rattle.delivery.specs.Bus.{quorum, overlap}
+use Rattle.delivery.specs.Rounds.{coordinator, identifierOf}
+use Rattle.delivery.specs.Delivered.{Store}
+use Rattle.delivery.specs.declared.round.Phase.the-variants.{Opening, Ballot}
+
+-- an entry that stands for a value which passes
+unfoldable pub says : ℕ → (ℕ → Bool) → Bool
+says zero p = false
+says (suc v) p = p v
+
+-- the ballot of round r that s gave bears w
+unfoldable pub bears : Limits → Store → ℕ → ℕ → ℕ → Bool
+bears L h r w s = eqb (h s (identifierOf L Ballot r)) (entryOf w)
+
+-- one round, where `may` says which values are allowed in it
+module _ (L : Limits) (n : ℕ) (h : Store) (may : ℕ → Bool) (r : ℕ) where
+  -- the opening with w counts: it came from the coordinator, w is not the blank, and w is allowed
+  unfoldable pub opens : ℕ → Bool
+  opens w = eqb (h (coordinator n r) (identifierOf L Opening r)) (entryOf w) and neg (eqb w 0) and may w
+
+  -- a ballot counts: the blank always does, any other value with its opening
+  unfoldable pub counts : ℕ → ℕ → Bool
+  counts w s = bears L h r w s and (eqb w 0 or opens w)
+
+  -- s has a ballot that counts, with some value
+  unfoldable pub countsSome : ℕ → Bool
+  countsSome s = says (h s (identifierOf L Ballot r)) (λ (w : ℕ). counts w s)
+
+  -- among these speakers' ballots every value other than the blank stands fewer than e times
+  unfoldable pub divided : List ℕ → Bool
+  divided ss =
+      everyOf
+      (λ (s : ℕ). says (h s (identifierOf L Ballot r)) (λ (w : ℕ). eqb w 0 or ltb (countOf (bears L h r w) ss) (overlap n)))
+      ss
+
+  -- what is allowed in the next round: some q speakers have ballots that count, and either e or more of
+  -- these bear w, or no value has so many and w is allowed in this round
+  unfoldable pub allowedAfter : ℕ → Bool
+  allowedAfter w =
+      neg (eqb w 0)
+      and someOf
+      n
+      (λ (ss : List ℕ).
+      eqb (length ss) (quorum n)
+      and everyOf countsSome ss
+      and (leb (overlap n) (countOf (bears L h r w) ss) or (divided ss and may w)))
+
+module _ (L : Limits) (n : ℕ) (h : Store) where
+  -- what is allowed in each round: every value in the first, and so on from there. The blank is no value
+  -- and never allowed; there is no round 0, and nothing is allowed in it.
+  unfoldable pub allowed : ℕ → ℕ → Bool
+  allowed zero w = false
+  allowed (suc zero) w = neg (eqb w 0)
+  allowed (suc (suc r)) w = allowedAfter L n h (allowed (suc r)) (suc r) w
+
+  -- the board accepts the opening of r with w
+  unfoldable pub acceptsOpening : ℕ → ℕ → Bool
+  acceptsOpening r w = opens L n h (allowed r) r w
+
+  -- the board accepts the ballot of r with w from s
+  unfoldable pub acceptsBallot : ℕ → ℕ → ℕ → Bool
+  acceptsBallot r s w = counts L n h (allowed r) r w s
+
+  -- the board accepts a ballot of r from s
+  unfoldable pub acceptsSome : ℕ → ℕ → Bool
+  acceptsSome r s = countsSome L n h (allowed r) r s

@@ -1,0 +1,30 @@
+-- Counting and choosing among the numbers 1 to n.
+use Prim.Native.Nat.{ℕ, zero, suc}
+use mathlib.Core.Bool.{Bool, true, false}
+use mathlib.Core.List.{List, [], _∷_}
+use Rattle.delivery.specs.Tests.{_and_, _or_}
+
+-- one more if the test passed
+unfoldable pub plus : Bool → ℕ → ℕ
+plus true k = suc k
+plus false k = k
+
+-- how many of 1 to n pass
+unfoldable pub countIn : ℕ → (ℕ → Bool) → ℕ
+countIn zero p = 0
+countIn (suc n) p = plus (p (suc n)) (countIn n p)
+
+-- how many of a list pass
+unfoldable pub countOf : (ℕ → Bool) → List ℕ → ℕ
+countOf p [] = 0
+countOf p (k ∷ ks) = plus (p k) (countOf p ks)
+
+-- all of a list pass
+unfoldable pub everyOf : (ℕ → Bool) → List ℕ → Bool
+everyOf p [] = true
+everyOf p (k ∷ ks) = p k and everyOf p ks
+
+-- some choice of different numbers of 1 to n passes: each is tried, with the highest number and without
+unfoldable pub someOf : ℕ → (List ℕ → Bool) → Bool
+someOf zero p = p []
+someOf (suc n) p = someOf n (λ (ks : List ℕ). p (suc n ∷ ks)) or someOf n p

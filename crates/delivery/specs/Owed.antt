@@ -1,0 +1,58 @@
+-- Document 01, "Delivery": the copies that are owed.
+use Prim.Native.Nat.{ℕ}
+use mathlib.Core.Bool.{Bool}
+use lib.Dec.{eqb}
+use lib.ListN.{replicate}
+use Rattle.signer.specs.FromOne.{nth, setNth}
+use Rattle.delivery.specs.Tests.{_and_, _or_, neg}
+use Rattle.delivery.specs.Limits.{Limits}
+use Rattle.delivery.specs.Sets.{inSet, setOf, bits}
+use Rattle.delivery.specs.declared.owed.Copies.{Copies}
+use Rattle.delivery.specs.declared.owed.Owed.{Owed}
+
+-- of one speaker's statements: no copy is owed; the boards to which one is owed of what it said under i;
+-- and with these replaced
+unfoldable pub noCopies : Limits → Copies
+noCopies L = record { receivers = replicate (L .identifiers) 0 }
+
+unfoldable pub receiversAt : Copies → ℕ → ℕ
+receiversAt c i = nth (c .receivers) i 0
+
+unfoldable pub withReceiversAt : Copies → ℕ → ℕ → Copies
+withReceiversAt c i m = record { receivers = setNth (c .receivers) i m }
+
+-- the same of every speaker's
+unfoldable pub nothingOwed : Limits → Owed
+nothingOwed L = record { speakers = replicate (L .boards) (noCopies L) }
+
+unfoldable pub copiesOf : Limits → Owed → ℕ → Copies
+copiesOf L o s = nth (o .speakers) s (noCopies L)
+
+unfoldable pub withCopies : Owed → ℕ → Copies → Owed
+withCopies o s c = record { speakers = setNth (o .speakers) s c }
+
+unfoldable pub receivers : Limits → Owed → ℕ → ℕ → ℕ
+receivers L o s i = receiversAt (copiesOf L o s) i
+
+unfoldable pub withReceivers : Limits → Owed → ℕ → ℕ → ℕ → Owed
+withReceivers L o s i m = withCopies o s (withReceiversAt (copiesOf L o s) i m)
+
+-- board k is one of the sound boards, is not the speaker s, and is not among those that have the statement
+unfoldable pub lacks : ℕ → ℕ → ℕ → ℕ → Bool
+lacks sound have s k = inSet sound k and neg (eqb k s) and neg (inSet have k)
+
+-- sound board s has signed under i: a copy is owed to each that lacks it
+unfoldable pub afterSigning : Limits → Owed → ℕ → ℕ → ℕ → ℕ → Owed
+afterSigning L o s i sound have =
+    withReceivers L o s i (setOf bits (λ (k : ℕ). inSet (receivers L o s i) k or lacks sound have s k))
+
+-- sound board j has delivered what s said under i: none is owed to j any more, and one is owed to each
+-- other board that lacks it (ECHO in the published vote)
+unfoldable pub afterDelivery : Limits → Owed → ℕ → ℕ → ℕ → ℕ → ℕ → Owed
+afterDelivery L o j s i sound have =
+    withReceivers
+    L
+    o
+    s
+    i
+    (setOf bits (λ (k : ℕ). neg (eqb k j) and (inSet (receivers L o s i) k or lacks sound have s k)))

@@ -1,0 +1,26 @@
+-- Document 01, "Words and sizes": rounds, their coordinators, and the identifiers of their statements.
+use Prim.Native.Nat.{ℕ, _+_, _-_, _*_, _%_}
+use mathlib.Core.Bool.{Bool}
+use lib.Dec.{leb}
+use Rattle.signer.specs.Choice.{if_then_else_}
+use Rattle.delivery.specs.Tests.{_and_}
+use Rattle.delivery.specs.Limits.{Limits}
+use Rattle.delivery.specs.declared.round.Phase.{Phase}
+use Rattle.delivery.specs.declared.round.Phase.the-variants.{Opening, Ballot}
+
+-- rounds are the numbers from 1 to the last
+unfoldable pub isRound : Limits → ℕ → Bool
+isRound L r = leb 1 r and leb r (L .rounds)
+
+-- the coordinator of round r among n boards: 1, 2, .. n, and again from 1
+unfoldable pub coordinator : ℕ → ℕ → ℕ
+coordinator n r = (r - 1) % n + 1
+
+-- a round's two identifiers: the opening's (PHASE1 in the published vote), then the ballot's (PHASE2)
+unfoldable pub phaseOf : Phase → ℕ → ℕ
+phaseOf Opening r = 2 * r - 1
+phaseOf Ballot r = 2 * r
+
+-- the identifier of a statement of round r; what is no round has none, which 0 stands for
+unfoldable pub identifierOf : Limits → Phase → ℕ → ℕ
+identifierOf L p r = if isRound L r then phaseOf p r else 0

@@ -1,0 +1,215 @@
+ghost use Prim.Native.Nat.{ℕ, _+_, _-_, min};
+ghost use mathlib.Core.Path.{_≡_};
+ghost use lib.Dec.{eqb, leb};
+ghost use Rattle.signer.specs.Choice.{if_then_else_};
+ghost use Rattle.delivery.specs.Tests.{_and_};
+ghost use Rattle.delivery.specs.Counting.{countIn};
+ghost use Rattle.delivery.specs.Limits.{limits};
+ghost use Rattle.delivery.specs.Rounds.{coordinator, identifierOf};
+ghost use Rattle.delivery.specs.Sets.{setOf};
+ghost use Rattle.delivery.specs.Delivered.{heard};
+ghost use Rattle.delivery.specs.Acceptance.{says, bears, allowedAfter, allowed, acceptsOpening, acceptsBallot, acceptsSome};
+ghost use Rattle.delivery.specs.Allowance.{among};
+use crate::bus;
+use crate::delivered::Delivered;
+use crate::round::Phase;
+use crate::round::Round;
+use crate::set;
+use signer::Identifier;
+use signer::Log;
+
+// What is allowed in a round, as the pass over the rounds carries it: no value, every value, or the
+// entry of the only value.
+const NO_VALUE: u32 = 0;
+
+const EVERY_VALUE: u32 = 1;
+
+// The opening's entry where its value is allowed, else 0.
+fn opened(before: u32, entry: u32) -> u32
+    ensures { λ r. ⌜ r ≡ (if says entry (among before) then entry else 0) ⌝ }
+{
+    if entry < 2 {
+        return 0;
+    }
+    if before == EVERY_VALUE {
+        return entry;
+    }
+    if before == entry {
+        return entry;
+    }
+    0
+}
+
+// How many of the ballots for the opening's value can stand among q of which fewer than e bear it.
+fn spare(backing: u8, e: u8) -> u8
+    ensures { λ r. ⌜ r ≡ min backing (e - 1) ⌝ }
+{
+    if e > backing {
+        return backing;
+    }
+    if e == 0 {
+        return 0;
+    }
+    e - 1
+}
+
+// What is allowed after a round with so many blank ballots and so many for the opening's value.
+fn settled(q: u8, e: u8, blank: u8, backing: u8, before: u32, opening: u32) -> u32
+    ensures { λ r. ⌜ r ≡ (if leb q (blank + min backing (e - 1)) then before else (if leb q (blank + backing) and leb e backing then opening else 0)) ⌝ }
+{
+    let needed = q as u16;
+    if needed <= blank as u16 + spare(backing, e) as u16 {
+        return before;
+    }
+    if needed > blank as u16 + backing as u16 {
+        return NO_VALUE;
+    }
+    // here backing is above the spare ones, so it is at least e
+    opening
+}
+
+impl Delivered {
+    // The boards of 1 to n with this entry under an identifier.
+    fn speakers(self, n: u8, id: Identifier, entry: u32) -> u16
+        ensures { λ r. ⌜ r ≡ setOf (min n (limits .boards)) (λ (s : ℕ). eqb (heard limits self s (id .0)) entry) ⌝ }
+    {
+        let mut m = n;
+        if n > Delivered::BOARDS {
+            m = Delivered::BOARDS;
+        }
+        let mut speakers = 0u16;
+        let mut k = 0u8;
+        while k < m {
+            if self.entry(k + 1, id) == entry {
+                speakers = set::with(speakers, k + 1);
+            }
+            k += 1;
+        }
+        speakers
+    }
+
+    // The boards of 1 to n whose ballot of a round has this entry; no ballot has entry 0.
+    fn bearing(self, n: u8, round: Round, entry: u32) -> u16
+        ensures { λ r. ⌜ r ≡ setOf n (λ (s : ℕ). says entry (λ (w : ℕ). bears limits (heard limits self) (round .0) w s)) ⌝ }
+    {
+        if entry == 0 {
+            return 0;
+        }
+        self.speakers(n, round.identifier(Phase::Ballot), entry)
+    }
+
+    // How many these are.
+    fn tally(self, n: u8, round: Round, entry: u32) -> u8
+        ensures { λ r. ⌜ r ≡ countIn n (λ (s : ℕ). says entry (λ (w : ℕ). bears limits (heard limits self) (round .0) w s)) ⌝ }
+    {
+        set::count(self.bearing(n, round, entry), n)
+    }
+
+    // The entry of the opening that the round's coordinator sent.
+    fn opening(self, n: u8, round: Round) -> u32
+        ensures { λ r. ⌜ r ≡ heard limits self (coordinator n (round .0)) (identifierOf limits Phase.Opening (round .0)) ⌝ }
+    {
+        self.entry(round.coordinator(n), round.identifier(Phase::Opening))
+    }
+
+    // What is allowed in the round after this one, if `before` is what is allowed in this one.
+    fn next(self, n: u8, round: Round, before: u32) -> u32
+        ensures { λ r. ⌜ ((w : ℕ) → among r w ≡ allowedAfter limits n (heard limits self) (among before) (round .0) w) ⌝ }
+    {
+        if n == 0 {
+            return EVERY_VALUE;
+        }
+        let opening = opened(before, self.opening(n, round));
+        let blank = self.tally(n, round, Log::entry_of(0));
+        let backing = self.tally(n, round, opening);
+        settled(
+            bus::quorum(n),
+            bus::overlap(n),
+            blank,
+            backing,
+            before,
+            opening,
+        )
+    }
+
+    // Whether the value of this entry is allowed in a round: one pass over the rounds before it.
+    fn allows(self, n: u8, round: Round, entry: u32) -> bool
+        ensures { λ r. ⌜ r ≡ says entry (allowed limits n (heard limits self) (round .0)) ⌝ }
+    {
+        let last = round.0;
+        if last == 0 {
+            return false;
+        }
+        if entry < 2 {
+            return false;
+        }
+        let mut allowance = EVERY_VALUE;
+        let mut r = 1u8;
+        while r < last {
+            allowance = self.next(n, Round(r), allowance);
+            r += 1;
+        }
+        if allowance == EVERY_VALUE {
+            return true;
+        }
+        allowance == entry
+    }
+
+    // Whether a value is allowed in a round.
+    pub fn allowed(self, n: u8, round: Round, value: u16) -> bool
+        ensures { λ r. ⌜ r ≡ allowed limits n (heard limits self) (round .0) value ⌝ }
+    {
+        self.allows(n, round, Log::entry_of(value))
+    }
+
+    // Whether the opening of a round with a value is accepted.
+    pub fn accepts_opening(self, n: u8, round: Round, value: u16) -> bool
+        ensures { λ r. ⌜ r ≡ acceptsOpening limits n (heard limits self) (round .0) value ⌝ }
+    {
+        let entry = self.opening(n, round);
+        if entry != Log::entry_of(value) {
+            return false;
+        }
+        self.allows(n, round, entry)
+    }
+
+    // Whether a speaker's ballot of a round with a value is accepted.
+    pub fn accepts_ballot(self, n: u8, round: Round, speaker: u8, value: u16) -> bool
+        ensures { λ r. ⌜ r ≡ acceptsBallot limits n (heard limits self) (round .0) speaker value ⌝ }
+    {
+        let entry = self.entry(speaker, round.identifier(Phase::Ballot));
+        if entry != Log::entry_of(value) {
+            return false;
+        }
+        if value == 0 {
+            return true;
+        }
+        self.accepts_opening(n, round, value)
+    }
+
+    // The boards of 1 to n whose accepted ballots of a round bear a value.
+    pub fn ballots_for(self, n: u8, round: Round, value: u16) -> u16
+        ensures { λ r. ⌜ r ≡ setOf n (λ (s : ℕ). acceptsBallot limits n (heard limits self) (round .0) s value) ⌝ }
+    {
+        let speakers = self.bearing(n, round, Log::entry_of(value));
+        if value == 0 {
+            return speakers;
+        }
+        if self.accepts_opening(n, round, value) {
+            return speakers;
+        }
+        0
+    }
+
+    // The boards of 1 to n with an accepted ballot of a round, whatever it bears.
+    pub fn ballots(self, n: u8, round: Round) -> u16
+        ensures { λ r. ⌜ r ≡ setOf n (acceptsSome limits n (heard limits self) (round .0)) ⌝ }
+    {
+        let blank = self.bearing(n, round, Log::entry_of(0));
+        let opening = self.opening(n, round);
+        if !self.allows(n, round, opening) {
+            return blank;
+        }
+        set::union(blank, self.bearing(n, round, opening))
+    }
+}

@@ -1,0 +1,14 @@
+// What a board has heard, what it may believe of it, and which copies are still owed. Nothing here
+// knows a board's turns or the bench.
+mod acceptance;
+pub mod bus;
+mod delivered;
+mod owed;
+mod round;
+pub mod set;
+
+pub use delivered::Delivered;
+pub use owed::Copies;
+pub use owed::Owed;
+pub use round::Phase;
+pub use round::Round;
