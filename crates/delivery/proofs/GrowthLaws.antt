@@ -12,10 +12,12 @@ use Rattle.delivery.specs.Counting.{countOf}
 use Rattle.delivery.specs.Limits.{Limits}
 use Rattle.delivery.specs.Bus.{quorum, overlap}
 use Rattle.delivery.specs.Rounds.{coordinator, identifierOf}
-use Rattle.delivery.specs.Delivered.{Store}
+use Rattle.delivery.specs.Delivered.{Store, heard, deliver}
 use Rattle.delivery.specs.Acceptance.{bears, allowedAfter, allowed, acceptsOpening, acceptsBallot, acceptsSome}
 use Rattle.delivery.specs.declared.round.Phase.the-variants.{Opening, Ballot}
+use Rattle.delivery.specs.declared.delivered.Delivered.{Delivered}
 use Rattle.delivery.proofs.CountLaws.{count-mono}
+use Rattle.delivery.proofs.DeliveredLaws.{deliver-keeps}
 use Rattle.delivery.proofs.ChoosingLaws.{count-alike}
 use Rattle.delivery.proofs.AcceptanceLaws.{
   Opens,
@@ -37,6 +39,10 @@ use Rattle.delivery.proofs.SingleStoreLaws.{Won}
 -- what stands in h stands in h′ too
 pub record Grows (h h′ : Store) : Type 0 where
   pub keeps : (s i : ℕ) → (h s i ≡ 0 → ⊥) → h′ s i ≡ h s i
+
+-- one statement more: what was there is there
+pub deliver-grows : (L : Limits) (d : Delivered) (s i v : ℕ) → Grows (heard L d) (heard L (deliver L d s i v))
+deliver-grows L d s i v = record { keeps = deliver-keeps L d s i v }
 
 said-grows : {h h′ : Store} (g : Grows h h′) (s i w : ℕ) → h s i ≡ entryOf w → h′ s i ≡ entryOf w
 said-grows g s i w e = g .keeps s i (λ z. omega arith) ∙ e

@@ -12,3 +12,5 @@ pub mod SingleStoreLaws
 pub mod GrowthLaws
 pub mod AllowanceLaws
 pub mod PassLaws
+pub mod ExampleLaws
+pub mod EchoLaws

@@ -11,3 +11,4 @@ pub mod Delivered
 pub mod Owed
 pub mod Acceptance
 pub mod Allowance
+pub mod Examples
