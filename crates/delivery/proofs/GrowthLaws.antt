@@ -34,7 +34,7 @@ use Rattle.delivery.proofs.AcceptanceLaws.{
   after-reads,
   reads-after,
 }
-use Rattle.delivery.proofs.SingleStoreLaws.{Won}
+use Rattle.delivery.proofs.AgreementLaws.{Won}
 
 -- what stands in h stands in h′ too
 pub record Grows (h h′ : Store) : Type 0 where

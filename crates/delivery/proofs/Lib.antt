@@ -5,12 +5,12 @@ pub mod RoundLaws
 pub mod SetLaws
 pub mod DeliveredLaws
 pub mod OwedLaws
+pub mod EchoLaws
 pub mod ChoosingLaws
 pub mod AcceptanceLaws
-pub mod RoundsLaws
-pub mod SingleStoreLaws
+pub mod AgreementLaws
 pub mod GrowthLaws
+pub mod RoundsLaws
 pub mod AllowanceLaws
 pub mod PassLaws
 pub mod ExampleLaws
-pub mod EchoLaws

@@ -8,7 +8,7 @@ use native.Mathlib.Omega.{arith}
 use lib.Dec.{eqb}
 use lib.ListN.{length, length-replicate}
 use Rattle.signer.specs.Log.{isIdentifier}
-use Rattle.signer.proofs.FromOneLaws.{setNth-none, length-setNth, nth-set-same, nth-set-other, nth-replicate}
+use Rattle.signer.proofs.FromOneLaws.{setNth-none, length-setNth, nth-set-same, nth-set-other, nth-change, set-back, nth-replicate}
 use Rattle.signer.proofs.LogLaws.{identifier-low, identifier-high, identifier-out}
 use Rattle.delivery.specs.Tests.{_and_, _or_, neg}
 use Rattle.delivery.specs.Limits.{Limits}
@@ -30,8 +30,7 @@ use Rattle.delivery.specs.Owed.{
 use Rattle.delivery.specs.declared.owed.Copies.{Copies}
 use Rattle.delivery.specs.declared.owed.Owed.{Owed}
 use Rattle.delivery.proofs.BoardLaws.{board-low, board-high, board-out}
-use Rattle.signer.proofs.FromOneLaws.{nth-change, set-back}
-use Rattle.delivery.proofs.SetLaws.{set-cong, in-setOf-within, in-without, in-minus}
+use Rattle.delivery.proofs.SetLaws.{set-cong, in-setOf-within, in-without}
 
 -- there is a set for each board as the speaker and each identifier
 pub record Complete (L : Limits) (o : Owed) : Type 0 where
@@ -192,31 +191,39 @@ and-comm true false = refl
 and-comm false true = refl
 and-comm false false = refl
 
+pub lacking-set : (s sound have : ℕ) → minus (withoutBoard sound s) have ≡ setOf bits (lacks sound have s)
+unfolding minus lacks
+lacking-set s sound have =
+    set-cong
+    bits
+    (λ (k : ℕ). inSet (withoutBoard sound s) k and neg (inSet have k))
+    (lacks sound have s)
+    (λ k l h.
+    ap (λ (b : Bool). b and neg (inSet have k)) (in-without sound s k l h)
+    ∙ and-assoc (inSet sound k) (neg (eqb k s)) (neg (inSet have k)))
+
 pub signing-set : (m s sound have : ℕ)
-    → union m (minus (withoutBoard sound s) have) ≡ setOf bits (λ (k : ℕ). inSet m k or lacks sound have s k)
-unfolding union lacks
+    → union m (setOf bits (lacks sound have s)) ≡ setOf bits (λ (k : ℕ). inSet m k or lacks sound have s k)
+unfolding union
 signing-set m s sound have =
     set-cong
     bits
-    (λ (k : ℕ). inSet m k or inSet (minus (withoutBoard sound s) have) k)
+    (λ (k : ℕ). inSet m k or inSet (setOf bits (lacks sound have s)) k)
     (λ (k : ℕ). inSet m k or lacks sound have s k)
-    (λ k l h. ap
-    (λ (b : Bool). inSet m k or b)
-    (in-minus (withoutBoard sound s) have k l h
-    ∙ ap (λ (b : Bool). b and neg (inSet have k)) (in-without sound s k l h)
-    ∙ and-assoc (inSet sound k) (neg (eqb k s)) (neg (inSet have k))))
+    (λ k l h. ap (λ (b : Bool). inSet m k or b) (in-setOf-within bits (lacks sound have s) k l h))
 
 pub delivery-set : (m j s sound have : ℕ)
-    → withoutBoard (union m (minus (withoutBoard sound s) have)) j
+    → withoutBoard (union m (setOf bits (lacks sound have s))) j
     ≡ setOf bits (λ (k : ℕ). neg (eqb k j) and (inSet m k or lacks sound have s k))
 unfolding withoutBoard
 delivery-set m j s sound have =
     set-cong
     bits
-    (λ (k : ℕ). inSet (union m (minus (withoutBoard sound s) have)) k and neg (eqb k j))
+    (λ (k : ℕ). inSet (union m (setOf bits (lacks sound have s))) k and neg (eqb k j))
     (λ (k : ℕ). neg (eqb k j) and (inSet m k or lacks sound have s k))
-    (λ k l h. and-comm (inSet (union m (minus (withoutBoard sound s) have)) k) (neg (eqb k j))
+    (λ k l h.
+    and-comm (inSet (union m (setOf bits (lacks sound have s))) k) (neg (eqb k j))
     ∙ ap
     (λ (b : Bool). neg (eqb k j) and b)
     (ap (λ (x : ℕ). inSet x k) (signing-set m s sound have)
-    ∙ in-setOf-within bits (λ (k : ℕ). inSet m k or lacks sound have s k) k l h))
+    ∙ in-setOf-within bits (λ (i : ℕ). inSet m i or lacks sound have s i) k l h))

@@ -30,7 +30,7 @@ use Rattle.delivery.proofs.DeliveredLaws.{heard-nobody}
 use Rattle.delivery.proofs.TestLaws.{and-left, and-right, and-in, or-cases, or-left, or-right, same-test, fails, decided}
 use Rattle.delivery.proofs.AcceptanceLaws.{Opens, after-reads, openingEntry, reads-after, says-bears, says-entry, says-value, some-value, value-says, value-some, ballotEntry, bears-reads}
 use Rattle.delivery.proofs.RoundsLaws.{allowed-first, allowed-next, says-none}
-use Rattle.delivery.proofs.SingleStoreLaws.{after-was}
+use Rattle.delivery.proofs.AgreementLaws.{after-was}
 use Rattle.delivery.proofs.AllowanceLaws.{Opened, backs, blank, backing, carries-counts, many-allowed, few-allowed}
 
 -- a number that no board can have bears nothing

@@ -24,18 +24,18 @@ const NO_VALUE: u32 = 0;
 
 const EVERY_VALUE: u32 = 1;
 
-// The opening's entry where its value is allowed, else 0.
-fn opened(before: u32, entry: u32) -> u32
-    ensures { λ r. ⌜ r ≡ (if says entry (among before) then entry else 0) ⌝ }
+// The entry that the coordinator sent as its opening where its value is allowed, else 0.
+fn opened(before: u32, sent: u32) -> u32
+    ensures { λ r. ⌜ r ≡ (if says sent (among before) then sent else 0) ⌝ }
 {
-    if entry < 2 {
+    if sent < 2 {
         return 0;
     }
     if before == EVERY_VALUE {
-        return entry;
+        return sent;
     }
-    if before == entry {
-        return entry;
+    if before == sent {
+        return sent;
     }
     0
 }
@@ -122,14 +122,9 @@ impl Delivered {
         let opening = opened(before, self.opening(n, round));
         let blank = self.tally(n, round, Log::entry_of(0));
         let backing = self.tally(n, round, opening);
-        settled(
-            bus::quorum(n),
-            bus::overlap(n),
-            blank,
-            backing,
-            before,
-            opening,
-        )
+        let q = bus::quorum(n);
+        let e = bus::overlap(n);
+        settled(q, e, blank, backing, before, opening)
     }
 
     // Whether the value of this entry is allowed in a round: one pass over the rounds before it.

@@ -1,6 +1,7 @@
 ghost use mathlib.Core.Path.{_≡_};
 ghost use Rattle.delivery.specs.Limits.{limits};
-ghost use Rattle.delivery.specs.Owed.{noCopies, receiversAt, withReceiversAt, nothingOwed, copiesOf, withCopies, receivers, afterSigning, afterDelivery};
+ghost use Rattle.delivery.specs.Sets.{setOf, bits};
+ghost use Rattle.delivery.specs.Owed.{noCopies, receiversAt, withReceiversAt, nothingOwed, copiesOf, withCopies, receivers, withReceivers, lacks, afterSigning, afterDelivery};
 use crate::delivered::Delivered;
 use crate::set;
 use signer::Identifier;
@@ -13,6 +14,13 @@ pub struct Copies {
 // The copies that are owed, by speaker.
 pub struct Owed {
     pub speakers: [Copies; Delivered::BOARDS as usize],
+}
+
+// The sound boards other than the speaker that do not have a statement.
+fn lacking(speaker: u8, sound: u16, have: u16) -> u16
+    ensures { λ r. ⌜ r ≡ setOf bits (lacks sound have speaker) ⌝ }
+{
+    set::minus(set::without(sound, speaker), have)
 }
 
 impl Copies {
@@ -90,14 +98,21 @@ impl Owed {
         self.copies(speaker).receivers(id)
     }
 
+    // With these boards in their place.
+    fn with_receivers(self, speaker: u8, id: Identifier, set: u16) -> Owed
+        ensures { λ r. ⌜ r ≡ withReceivers limits self speaker (id .0) set ⌝ }
+    {
+        let copies = self.copies(speaker).with_receivers(id, set);
+        self.with_copies(speaker, copies)
+    }
+
     // After a sound board signed: `sound` are the sound boards, `have` those that have the statement.
     pub fn after_signing(self, speaker: u8, id: Identifier, sound: u16, have: u16) -> Owed
         ensures { λ r. ⌜ r ≡ afterSigning limits self speaker (id .0) sound have ⌝ }
     {
-        let copies = self.copies(speaker);
-        let lacking = set::minus(set::without(sound, speaker), have);
-        let owed = set::union(copies.receivers(id), lacking);
-        self.with_copies(speaker, copies.with_receivers(id, owed))
+        let sent = lacking(speaker, sound, have);
+        let owed = set::union(self.receivers(speaker, id), sent);
+        self.with_receivers(speaker, id, owed)
     }
 
     // After sound board `board` delivered a statement of `speaker`.
@@ -111,10 +126,8 @@ impl Owed {
     ) -> Owed
         ensures { λ r. ⌜ r ≡ afterDelivery limits self board speaker (id .0) sound have ⌝ }
     {
-        let copies = self.copies(speaker);
-        let lacking = set::minus(set::without(sound, speaker), have);
-        let owed = set::union(copies.receivers(id), lacking);
-        let others = set::without(owed, board);
-        self.with_copies(speaker, copies.with_receivers(id, others))
+        let echoed = lacking(speaker, sound, have);
+        let owed = set::union(self.receivers(speaker, id), echoed);
+        self.with_receivers(speaker, id, set::without(owed, board))
     }
 }

@@ -1,18 +1,12 @@
 -- `Owed::after_delivery` meets its contract. Assumes nothing.
 use borrow.Author.Needs.{needs}
-use Rattle.delivery.specs.Owed.{receivers, withReceivers, afterDelivery}
+use Rattle.delivery.specs.Owed.{afterDelivery}
 use Rattle.delivery.proofs.OwedLaws.{delivery-set}
 use Rattle.delivery.proofs.owed.Owed.after_delivery.Statement.{statement}
 use Rattle.delivery.proofs.owed.Owed.after_delivery.Tie as tie
 
-copies-requires : tie.Need-copies-requires
-copies-requires c κs = search needs
-
-without-requires : tie.Need-without-requires
-without-requires c κs = search needs
-
-minus-requires : tie.Need-minus-requires
-minus-requires c κs = search needs
+lacking-requires : tie.Need-lacking-requires
+lacking-requires c κs = search needs
 
 receivers-requires : tie.Need-receivers-requires
 receivers-requires c κs = search needs
@@ -20,30 +14,16 @@ receivers-requires c κs = search needs
 union-requires : tie.Need-union-requires
 union-requires c κs = search needs
 
-without-requires-2 : tie.Need-without-requires-2
-without-requires-2 c κs = search needs
+without-requires : tie.Need-without-requires
+without-requires c κs = search needs
 
 with-receivers-requires : tie.Need-with-receivers-requires
 with-receivers-requires c κs = search needs
 
-with-copies-requires : tie.Need-with-copies-requires
-with-copies-requires c κs = search needs
-
 returns : tie.Need-returns
-unfolding afterDelivery withReceivers receivers
+unfolding afterDelivery
 returns c =
-    rw (c .with-copies .ensures, c .before .with-receivers .ensures, c .before .before .without2 .ensures, c .before .before .before .union .ensures, c .before .before .before .before .receivers .ensures, c .before .before .before .before .before .minus .ensures, c .before .before .before .before .before .before .without .ensures, c .before .before .before .before .before .before .before .copies .ensures, delivery-set)
+    rw (c .with-receivers .ensures, c .before .without .ensures, c .before .before .union .ensures, c .before .before .before .receivers .ensures, c .before .before .before .before .lacking .ensures, delivery-set)
 
 pub after-delivery-spec : {M : Type 1} → statement M
-after-delivery-spec =
-    tie.close
-    (tie.spec
-    copies-requires
-    without-requires
-    minus-requires
-    receivers-requires
-    union-requires
-    without-requires-2
-    with-receivers-requires
-    with-copies-requires
-    returns)
+after-delivery-spec = tie.close (tie.spec lacking-requires receivers-requires union-requires without-requires with-receivers-requires returns)
