@@ -3,30 +3,17 @@
 use Prim.Native.Nat.{ℕ, zero, suc, _≤_, _<_}
 use native.Mathlib.Omega.{arith}
 use native.Mathlib.Decide.{decLt, le-ind}
-use mathlib.Core.Path.{_≡_, refl, sym, ap, _∙_}
+use mathlib.Core.Path.{_≡_, sym}
 use mathlib.Core.Bool.{Bool, true, false, true≢false}
 use mathlib.Core.Logic.{_⊎_, inl, inr, ⊎-elim}
-use mathlib.Core.List.{List}
 use Rattle.delivery.specs.Counting.{countIn, countOf}
 use Rattle.delivery.specs.Limits.{Limits}
 use Rattle.delivery.specs.Bus.{quorum, overlap}
 use Rattle.delivery.specs.Delivered.{Store}
-use Rattle.delivery.specs.Acceptance.{opens, bears, counts, allowedAfter, allowed, acceptsOpening, acceptsBallot}
+use Rattle.delivery.specs.Acceptance.{bears, counts, allowedAfter, allowed, acceptsBallot}
 use Rattle.delivery.proofs.CountLaws.{count-mono, find, quorums-meet, overlap-pos, overlap-le}
 use Rattle.delivery.proofs.ChoosingLaws.{choice-shares}
-use Rattle.delivery.proofs.AcceptanceLaws.{
-  Opens,
-  reads-opens,
-  one-opening,
-  counts-reads,
-  reads-bears,
-  ballot-opened,
-  Divided,
-  Carries,
-  AllowedNext,
-  after-reads,
-  carried-opened,
-}
+use Rattle.delivery.proofs.OneRoundLaws.{Opens, reads-opens, one-opening, counts-reads, reads-bears, ballot-opened, Divided, AllowedNext, after-reads, carried-opened}
 
 -- one round of a bus that has boards, where `may` says what is allowed in it
 module _ (L : Limits) (n : ℕ) (h : Store) (may : ℕ → Bool) (r : ℕ) (some : 1 ≤ n) where

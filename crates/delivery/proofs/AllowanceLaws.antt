@@ -1,12 +1,12 @@
 -- What is allowed in the next round, by counts: how many ballots are blank, and how many bear the value of
 -- the opening that counts. So no choice of speakers has to be tried. Assumes nothing.
-use Prim.Native.Nat.{ℕ, zero, suc, _+_, _-_, _≤_, _<_, min}
+use Prim.Native.Nat.{ℕ, _+_, _-_, _≤_, _<_, min}
 use native.Mathlib.Omega.{arith}
 use native.Mathlib.Decide.{decLe}
-use mathlib.Core.Path.{_≡_, refl, sym, ap, _∙_}
-use mathlib.Core.Bool.{Bool, true, false, true≢false}
+use mathlib.Core.Path.{_≡_, refl, ap, _∙_}
+use mathlib.Core.Bool.{Bool, true}
 use mathlib.Core.Logic.{_⊎_, inl, inr, ⊎-elim}
-use mathlib.Core.List.{List, List·Memᴰ}
+use mathlib.Core.List.{List}
 use borrow.Author.Tests.{eqb-true, eq-eqb, leb-true, le-leb}
 use lib.Dec.{eqb, leb}
 use lib.ListN.{length}
@@ -16,29 +16,11 @@ use Rattle.delivery.specs.Counting.{countIn, countOf}
 use Rattle.delivery.specs.Limits.{Limits}
 use Rattle.delivery.specs.Bus.{quorum, overlap}
 use Rattle.delivery.specs.Delivered.{Store}
-use Rattle.delivery.specs.Acceptance.{says, opens, bears, allowedAfter}
-use Rattle.delivery.proofs.TestLaws.{and-left, and-right, and-in, or-cases, or-left, or-right, same-test, decided}
+use Rattle.delivery.specs.Acceptance.{says, bears, allowedAfter}
+use Rattle.delivery.proofs.TestLaws.{and-left, and-right, and-in, or-cases, or-left, or-right, same-test}
 use Rattle.delivery.proofs.CountLaws.{overlap-pos, overlap-le}
 use Rattle.delivery.proofs.ChoosingLaws.{choice-within, find-member, count-alike, length-either, Chosen, choose}
-use Rattle.delivery.proofs.AcceptanceLaws.{
-  says-value,
-  value-says,
-  some-value,
-  value-some,
-  openingEntry,
-  Opens,
-  opens-reads,
-  reads-opens,
-  bears-reads,
-  reads-bears,
-  Counts,
-  Divided,
-  Carries,
-  AllowedNext,
-  after-reads,
-  reads-after,
-  carried-opened,
-}
+use Rattle.delivery.proofs.OneRoundLaws.{says-value, value-says, some-value, value-some, Opens, bears-reads, reads-bears, Counts, Divided, Carries, after-reads, reads-after, carried-opened}
 
 -- q of b and d: d first
 share : (q b d : ℕ) → q ≤ b + d → (q - min d q ≤ b) × (min d q ≤ d) × ((q - min d q) + min d q ≡ q)

@@ -6,7 +6,6 @@ use mathlib.Core.Bool.{Bool, true, false, true≢false}
 use mathlib.Core.Logic.{_⊎_, inl, inr, ⊎-elim}
 use mathlib.Core.List.{List, [], _∷_, List·Memᴰ, List·Memᴰ·head, List·Memᴰ·tail, List·Memᴰ·cases-cons, List·Memᴰ·not-nil}
 use lib.ListN.{length}
-use Rattle.delivery.specs.Tests.{_and_, _or_}
 use Rattle.delivery.specs.Counting.{plus, countIn, countOf, everyOf, someOf}
 use Rattle.delivery.proofs.TestLaws.{and-left, and-right, and-in, or-cases, or-left, or-right}
 

@@ -13,7 +13,7 @@ use Rattle.signer.specs.FromOne.{setNth}
 use Rattle.signer.specs.Log.{isIdentifier, entryOf, emptyLog, entryAt, withEntry}
 use Rattle.signer.specs.declared.log.Log.{Log}
 use Rattle.signer.proofs.ChoiceLaws.{if-elim, if-true, if-false}
-use Rattle.signer.proofs.FromOneLaws.{nth-none, setNth-none, length-setNth, nth-set-same, nth-replicate}
+use Rattle.signer.proofs.FromOneLaws.{nth-none, setNth-none, length-setNth, nth-set-same, nth-replicate, within-high, within-low, within-out, nth-change}
 use Rattle.signer.proofs.LogLaws.{
   Whole as WholeLog,
   empty-whole,
@@ -28,8 +28,6 @@ use Rattle.delivery.specs.Limits.{Limits}
 use Rattle.delivery.specs.Bus.{isBoard}
 use Rattle.delivery.specs.Delivered.{nothingDelivered, logOf, heard, deliver}
 use Rattle.delivery.specs.declared.delivered.Delivered.{Delivered}
-use Rattle.delivery.proofs.BoardLaws.{board-low, board-high, board-out}
-use Rattle.signer.proofs.FromOneLaws.{nth-change}
 
 -- there is a log for each board, with an entry for each identifier
 pub record Whole (L : Limits) (d : Delivered) : Type 0 where
@@ -57,7 +55,7 @@ heard-nothing L s i = ap (λ (l : Log). entryAt l i) (log-nothing L s) ∙ entry
 pub log-nobody : (L : Limits) (d : Delivered) (s : ℕ) → length (d .logs) ≡ L .boards → isBoard L s ≡ false
     → logOf L d s ≡ emptyLog (L .identifiers)
 unfolding logOf
-log-nobody L d s n h = nth-none (d .logs) s (emptyLog (L .identifiers)) (λ l. omega (arith, board-out L s h l))
+log-nobody L d s n h = nth-none (d .logs) s (emptyLog (L .identifiers)) (λ l. omega (arith, within-out (L .boards) s h l))
 
 pub heard-nobody : (L : Limits) (d : Delivered) (s i : ℕ) → length (d .logs) ≡ L .boards → isBoard L s ≡ false
     → heard L d s i ≡ 0
@@ -123,7 +121,7 @@ module _ (L : Limits) (d : Delivered) (s i v : ℕ) where
       deliver-new (heard-nobody L d s i n h)
       ∙ ap
       (λ (ls : List Log). record { logs = ls })
-      (setNth-none (d .logs) s (withEntry (logOf L d s) i (entryOf v)) (λ l. omega (arith, board-out L s h l)))
+      (setNth-none (d .logs) s (withEntry (logOf L d s) i (entryOf v)) (λ l. omega (arith, within-out (L .boards) s h l)))
 
   pub deliver-whole : Whole L d → Whole L (deliver L d s i v)
   unfolding deliver
@@ -156,8 +154,8 @@ module _ (L : Limits) (d : Delivered) (s i v : ℕ) where
       s
       (withEntry (logOf L d s) i (entryOf v))
       (emptyLog (L .identifiers))
-      (board-low L s b)
-      (omega (arith, w .size, board-high L s b)))
+      (within-low (L .boards) s b)
+      (omega (arith, w .size, within-high (L .boards) s b)))
       ∙ entry-same (L .identifiers) (logOf L d s) i (entryOf v) (w .each s) h
 
   -- nothing else changes: what is there afterwards was there before, or is this statement, where there was none

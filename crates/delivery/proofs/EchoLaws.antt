@@ -2,7 +2,7 @@
 use Prim.Native.Nat.{ℕ, _≤_}
 use native.Mathlib.Decide.{decLe}
 use native.Mathlib.Omega.{arith}
-use mathlib.Core.Path.{_≡_, refl, sym, ap, _∙_}
+use mathlib.Core.Path.{_≡_, sym, _∙_}
 use mathlib.Core.Bool.{Bool, true, false, true≢false}
 use mathlib.Core.Logic.{_⊎_, inl, inr, ⊎-elim}
 use borrow.Author.Tests.{ne-eqb, eqb-false}
@@ -14,7 +14,7 @@ use Rattle.delivery.specs.Bus.{isBoard}
 use Rattle.delivery.specs.Sets.{inSet, setOf, bits}
 use Rattle.delivery.specs.Owed.{receivers, lacks, afterSigning, afterDelivery}
 use Rattle.delivery.specs.declared.owed.Owed.{Owed}
-use Rattle.delivery.proofs.TestLaws.{and-left, and-right, and-in, or-cases, or-left, or-right, neg-true, neg-in, fails}
+use Rattle.delivery.proofs.TestLaws.{and-left, and-right, and-in, or-cases, or-left, or-right, neg-true, neg-in}
 use Rattle.delivery.proofs.SetLaws.{in-setOf-within, in-setOf-outside}
 use Rattle.delivery.proofs.OwedLaws.{Complete, signing-here, delivery-here}
 

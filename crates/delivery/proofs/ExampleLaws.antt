@@ -2,25 +2,25 @@
 use Prim.Native.Nat.{ℕ, _≤_}
 use native.Mathlib.Omega.{arith}
 use mathlib.Core.Path.{_≡_, refl, sym, _∙_}
-use mathlib.Core.Bool.{Bool, true, false}
-use mathlib.Core.Logic.{_⊎_, inl, inr, ⊎-elim}
+use mathlib.Core.Bool.{false}
+use mathlib.Core.Logic.{inl, inr, ⊎-elim}
 use borrow.Author.Tests.{eqb-true, eq-eqb}
 use lib.Dec.{eqb}
 use Rattle.signer.specs.Choice.{if_then_else_}
-use Rattle.signer.specs.FromOne.{nth, setNth}
+use Rattle.signer.specs.FromOne.{isWithin, nth, setNth}
 use Rattle.signer.specs.Log.{emptyLog, entryAt, withEntry, entryOf}
 use Rattle.delivery.specs.Tests.{_and_, _or_, neg}
 use Rattle.delivery.specs.Counting.{plus, countIn}
 use Rattle.delivery.specs.Limits.{limits}
-use Rattle.delivery.specs.Rounds.{isRound, coordinator, phaseOf, identifierOf}
+use Rattle.delivery.specs.Rounds.{coordinator, phaseOf, identifierOf}
 use Rattle.delivery.specs.Delivered.{nothingDelivered, logOf, heard, deliver}
 use Rattle.delivery.specs.Acceptance.{says, bears, allowed}
 use Rattle.delivery.specs.Allowance.{among}
 use Rattle.delivery.specs.Examples.{nine-blank, blank-blank, nine-blank-blank, nine-alone, nine-nine-blank, unopened, Unopened, Letters}
 use Rattle.delivery.specs.declared.delivered.Delivered.{Delivered}
 use Rattle.delivery.proofs.TestLaws.{same-test, fails}
-use Rattle.delivery.proofs.AcceptanceLaws.{some-value, value-some}
-use Rattle.delivery.proofs.RoundsLaws.{opening-unsent, ballot-unopened}
+use Rattle.delivery.proofs.OneRoundLaws.{some-value, value-some}
+use Rattle.delivery.proofs.AllRoundsLaws.{opening-unsent, ballot-unopened}
 use Rattle.delivery.proofs.PassLaws.{among-reads, reads-among, Counted, counted-next, every-first, next-allowed}
 
 -- what an allowance says of every value
@@ -67,7 +67,7 @@ tallies : (Tallied 3 nine-blank 1 1 10)
     × (Tallied 4 nine-blank-blank 2 1 1)
     × (Tallied 4 nine-nine-blank 1 2 10)
 unfolding
-    heard logOf deliver nothingDelivered identifierOf phaseOf isRound coordinator _and_ _or_ neg if_then_else_ says bears
+    heard logOf deliver nothingDelivered identifierOf phaseOf isWithin coordinator _and_ _or_ neg if_then_else_ says bears
     among countIn plus nth setNth emptyLog entryAt withEntry
 tallies = (
   record { opening = refl; blanks = refl; backers = refl; left = refl },
@@ -81,7 +81,7 @@ tallies = (
 -- no opening was heard, so no ballot with a value is accepted
 no-opening : Unopened 4
 unfolding
-    heard logOf deliver nothingDelivered identifierOf phaseOf isRound coordinator _and_ if_then_else_ nth setNth emptyLog
+    heard logOf deliver nothingDelivered identifierOf phaseOf isWithin coordinator _and_ if_then_else_ nth setNth emptyLog
     entryAt withEntry
 no-opening v = (
   refl,

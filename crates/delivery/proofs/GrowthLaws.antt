@@ -1,16 +1,16 @@
 -- Acceptance grows with what was delivered: what one store lets a board accept, a store with more in it does
 -- too. Assumes nothing.
-use Prim.Native.Nat.{ℕ, zero, suc, _≤_, _<_}
+use Prim.Native.Nat.{ℕ, zero, suc, _≤_}
 use native.Mathlib.Omega.{arith}
-use mathlib.Core.Path.{_≡_, refl, sym, ap, _∙_}
-use mathlib.Core.Bool.{Bool, true, false}
-use mathlib.Core.Logic.{_⊎_, inl, inr, ⊎-elim}
-use mathlib.Core.List.{List, List·Memᴰ}
+use mathlib.Core.Path.{_≡_, sym, ap, _∙_}
+use mathlib.Core.Bool.{Bool, true}
+use mathlib.Core.Logic.{inl, inr, ⊎-elim}
+use mathlib.Core.List.{List}
 use lib.Dec.{eqb}
 use Rattle.signer.specs.Log.{entryOf}
 use Rattle.delivery.specs.Counting.{countOf}
 use Rattle.delivery.specs.Limits.{Limits}
-use Rattle.delivery.specs.Bus.{quorum, overlap}
+use Rattle.delivery.specs.Bus.{overlap}
 use Rattle.delivery.specs.Rounds.{coordinator, identifierOf}
 use Rattle.delivery.specs.Delivered.{Store, heard, deliver}
 use Rattle.delivery.specs.Acceptance.{bears, allowedAfter, allowed, acceptsOpening, acceptsBallot, acceptsSome}
@@ -19,21 +19,7 @@ use Rattle.delivery.specs.declared.delivered.Delivered.{Delivered}
 use Rattle.delivery.proofs.CountLaws.{count-mono}
 use Rattle.delivery.proofs.DeliveredLaws.{deliver-keeps}
 use Rattle.delivery.proofs.ChoosingLaws.{count-alike}
-use Rattle.delivery.proofs.AcceptanceLaws.{
-  Opens,
-  opens-reads,
-  reads-opens,
-  Counts,
-  counts-reads,
-  reads-counts,
-  some-reads,
-  reads-some,
-  Divided,
-  Carries,
-  AllowedNext,
-  after-reads,
-  reads-after,
-}
+use Rattle.delivery.proofs.OneRoundLaws.{Opens, opens-reads, reads-opens, Counts, counts-reads, reads-counts, some-reads, reads-some, Divided, Carries, after-reads, reads-after}
 use Rattle.delivery.proofs.AgreementLaws.{Won}
 
 -- what stands in h stands in h′ too

@@ -8,8 +8,7 @@ use native.Mathlib.Omega.{arith}
 use lib.Dec.{eqb}
 use lib.ListN.{length, length-replicate}
 use Rattle.signer.specs.Log.{isIdentifier}
-use Rattle.signer.proofs.FromOneLaws.{setNth-none, length-setNth, nth-set-same, nth-set-other, nth-change, set-back, nth-replicate}
-use Rattle.signer.proofs.LogLaws.{identifier-low, identifier-high, identifier-out}
+use Rattle.signer.proofs.FromOneLaws.{setNth-none, length-setNth, nth-set-same, nth-set-other, nth-change, set-back, nth-replicate, within-low, within-high, within-out}
 use Rattle.delivery.specs.Tests.{_and_, _or_, neg}
 use Rattle.delivery.specs.Limits.{Limits}
 use Rattle.delivery.specs.Bus.{isBoard}
@@ -29,7 +28,6 @@ use Rattle.delivery.specs.Owed.{
 }
 use Rattle.delivery.specs.declared.owed.Copies.{Copies}
 use Rattle.delivery.specs.declared.owed.Owed.{Owed}
-use Rattle.delivery.proofs.BoardLaws.{board-low, board-high, board-out}
 use Rattle.delivery.proofs.SetLaws.{set-cong, in-setOf-within, in-without}
 
 -- there is a set for each board as the speaker and each identifier
@@ -86,15 +84,15 @@ module _ (L : Limits) (o : Owed) (s i m : ℕ) where
       s
       (withReceiversAt (copiesOf L o s) i m)
       (noCopies L)
-      (board-low L s b)
-      (omega (arith, w .size, board-high L s b)))
+      (within-low (L .boards) s b)
+      (omega (arith, w .size, within-high (L .boards) s b)))
       ∙ nth-set-same
       (copiesOf L o s .receivers)
       i
       m
       0
-      (identifier-low (L .identifiers) i h)
-      (omega (arith, w .each s, identifier-high (L .identifiers) i h))
+      (within-low (L .identifiers) i h)
+      (omega (arith, w .each s, within-high (L .identifiers) i h))
 
   with-there : (s′ i′ : ℕ) → (s′ ≡ s → i′ ≡ i → ⊥)
       → receivers L (withReceivers L o s i m) s′ i′ ≡ receivers L o s′ i′
@@ -112,7 +110,7 @@ module _ (L : Limits) (o : Owed) (s i m : ℕ) where
   with-nobody n h =
       ap
       (λ (cs : List Copies). record { speakers = cs })
-      (setNth-none (o .speakers) s (withReceiversAt (copiesOf L o s) i m) (λ l. omega (arith, board-out L s h l)))
+      (setNth-none (o .speakers) s (withReceiversAt (copiesOf L o s) i m) (λ l. omega (arith, within-out (L .boards) s h l)))
 
   with-outside : Complete L o → isIdentifier (L .identifiers) i ≡ false → withReceivers L o s i m ≡ o
   unfolding withReceivers withCopies withReceiversAt copiesOf
@@ -123,7 +121,7 @@ module _ (L : Limits) (o : Owed) (s i m : ℕ) where
       (copiesOf L o s .receivers)
       i
       m
-      (λ l. omega (arith, w .each s, identifier-out (L .identifiers) i h l)))
+      (λ l. omega (arith, w .each s, within-out (L .identifiers) i h l)))
       ∙ ap (λ (cs : List Copies). record { speakers = cs }) (set-back (o .speakers) s (noCopies L))
 
 -- after s signed under i: its set there is what the definition says, and no other changes

@@ -1,11 +1,11 @@
 -- What the program carries over the rounds stands for what is allowed. Assumes nothing.
-use Prim.Native.Nat.{ℕ, zero, suc, _+_, _-_, _≤_, min, _^_, _<_}
+use Prim.Native.Nat.{ℕ, _+_, _-_, _≤_, min, _^_, _<_}
 use native.Mathlib.Omega.{arith}
 use mathlib.Core.Path.{_≡_, refl, sym, ap, fun-ext, _∙_}
 use mathlib.Core.Bool.{Bool, true, false, true≢false}
 use mathlib.Core.Logic.{_⊎_, inl, inr, ⊎-elim}
-use mathlib.Core.List.{List, [], List·Memᴰ·not-nil}
-use borrow.Author.Tests.{eqb-true, eqb-false, eq-eqb, ne-eqb, leb-true, leb-false, le-leb}
+use mathlib.Core.List.{[], List·Memᴰ·not-nil}
+use borrow.Author.Tests.{eqb-true, eqb-false, eq-eqb, ne-eqb, leb-true, le-leb}
 use lib.Dec.{eqb, leb}
 use lib.ListN.{length}
 use Rattle.signer.specs.Choice.{if_then_else_}
@@ -22,14 +22,14 @@ use Rattle.delivery.specs.Acceptance.{says, bears, allowedAfter, allowed
 use Rattle.delivery.specs.Allowance.{among}
 use Rattle.delivery.specs.declared.delivered.Delivered.{Delivered}
 use Rattle.delivery.specs.declared.round.Phase.the-variants.{Ballot}
-use Rattle.delivery.proofs.BoardLaws.{board-high}
+use Rattle.signer.proofs.FromOneLaws.{within-high}
 use Rattle.delivery.proofs.CountLaws.{count-cong}
 use Rattle.delivery.proofs.SetLaws.{set-cong, set-beyond, set-fits}
 use Rattle.delivery.proofs.ChoosingLaws.{none}
 use Rattle.delivery.proofs.DeliveredLaws.{heard-nobody}
 use Rattle.delivery.proofs.TestLaws.{and-left, and-right, and-in, or-cases, or-left, or-right, same-test, fails, decided}
-use Rattle.delivery.proofs.AcceptanceLaws.{Opens, after-reads, openingEntry, reads-after, says-bears, says-entry, says-value, some-value, value-says, value-some, ballotEntry, bears-reads}
-use Rattle.delivery.proofs.RoundsLaws.{allowed-first, allowed-next, says-none}
+use Rattle.delivery.proofs.OneRoundLaws.{Opens, after-reads, openingEntry, reads-after, says-bears, says-entry, says-value, some-value, value-says, value-some, ballotEntry, bears-reads}
+use Rattle.delivery.proofs.AllRoundsLaws.{allowed-first, allowed-next, says-none}
 use Rattle.delivery.proofs.AgreementLaws.{after-was}
 use Rattle.delivery.proofs.AllowanceLaws.{Opened, backs, blank, backing, carries-counts, many-allowed, few-allowed}
 
@@ -37,7 +37,7 @@ use Rattle.delivery.proofs.AllowanceLaws.{Opened, backs, blank, backing
 module _ (L : Limits) (d : Delivered) (r : ℕ) (size : length (d .logs) ≡ L .boards) where
   silent : (s : ℕ) → L .boards < s → ballotEntry L (heard L d) r s ≡ 0
   silent s l =
-      heard-nobody L d s (identifierOf L Ballot r) size (fails (isBoard L s) (λ b. omega (arith, board-high L s b)))
+      heard-nobody L d s (identifierOf L Ballot r) size (fails (isBoard L s) (λ b. omega (arith, within-high (L .boards) s b)))
 
   bears-nobody : (w s : ℕ) → L .boards < s → bears L (heard L d) r w s ≡ false
   bears-nobody w s l =

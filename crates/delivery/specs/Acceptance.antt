@@ -13,7 +13,7 @@ use Rattle.delivery.specs.Rounds.{coordinator, identifierOf}
 use Rattle.delivery.specs.Delivered.{Store}
 use Rattle.delivery.specs.declared.round.Phase.the-variants.{Opening, Ballot}
 
--- an entry that stands for a value which passes
+-- the entry x stands for a value, and that value passes
 unfoldable pub says : ℕ → (ℕ → Bool) → Bool
 says zero p = false
 says (suc v) p = p v
@@ -36,15 +36,16 @@ module _ (L : Limits) (n : ℕ) (h : Store) (may : ℕ → Bool) (r : ℕ) where
   unfoldable pub countsSome : ℕ → Bool
   countsSome s = says (h s (identifierOf L Ballot r)) (λ (w : ℕ). counts w s)
 
-  -- among these speakers' ballots every value other than the blank stands fewer than e times
+  -- among these speakers' ballots every value other than the blank stands fewer than e times; a value that
+  -- none of them bears stands 0 times, so it is enough to look at those that they bear
   unfoldable pub divided : List ℕ → Bool
   divided ss =
       everyOf
       (λ (s : ℕ). says (h s (identifierOf L Ballot r)) (λ (w : ℕ). eqb w 0 or ltb (countOf (bears L h r w) ss) (overlap n)))
       ss
 
-  -- what is allowed in the next round: some q speakers have ballots that count, and either e or more of
-  -- these bear w, or no value has so many and w is allowed in this round
+  -- the value w is allowed in the next round: there are q different speakers whose ballots count, and of these
+  -- ballots e or more bear w, or no value has so many and w is allowed in this round
   unfoldable pub allowedAfter : ℕ → Bool
   allowedAfter w =
       neg (eqb w 0)
@@ -56,8 +57,8 @@ module _ (L : Limits) (n : ℕ) (h : Store) (may : ℕ → Bool) (r : ℕ) where
       and (leb (overlap n) (countOf (bears L h r w) ss) or (divided ss and may w)))
 
 module _ (L : Limits) (n : ℕ) (h : Store) where
-  -- what is allowed in each round: every value in the first, and so on from there. The blank is no value
-  -- and never allowed; there is no round 0, and nothing is allowed in it.
+  -- what is allowed in each round: every value in the first, and so on from there. At 0, which is the blank and no
+  -- value, this is false in every round. There is no round 0, and nothing is allowed in it.
   unfoldable pub allowed : ℕ → ℕ → Bool
   allowed zero w = false
   allowed (suc zero) w = neg (eqb w 0)

@@ -2,15 +2,15 @@
 -- they are.
 use Prim.Native.Nat.{ℕ, _-_, _*_, _/_}
 use mathlib.Core.Bool.{Bool}
-use lib.Dec.{leb}
-use Rattle.delivery.specs.Tests.{_and_}
+use Rattle.signer.specs.FromOne.{isWithin}
 use Rattle.delivery.specs.Limits.{Limits}
 
 -- boards have the numbers from 1 to the highest
-unfoldable pub isBoard : Limits → ℕ → Bool
-isBoard L k = leb 1 k and leb k (L .boards)
+abbrev pub isBoard : Limits → ℕ → Bool
+isBoard L k = isWithin (L .boards) k
 
--- f, the faulty boards that the vote can bear and still end, of n boards
+-- Of n boards (and of 0, which no bus has, all three are 0, since 0 - 1 is 0):
+-- f, the faulty boards that the vote can bear and still end
 abbrev pub faults : ℕ → ℕ
 faults n = (n - 1) / 2
 

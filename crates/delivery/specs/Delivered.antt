@@ -1,6 +1,5 @@
 -- Document 01, "Delivery": what one board has delivered, and one statement more.
 use Prim.Native.Nat.{ℕ}
-use mathlib.Core.Bool.{Bool}
 use lib.Dec.{eqb}
 use lib.ListN.{replicate}
 use Rattle.signer.specs.FromOne.{nth, setNth}

@@ -3,14 +3,15 @@
 -- proofs/ExampleLaws.
 use Prim.Native.Nat.{ℕ}
 use mathlib.Core.Path.{_≡_, refl}
-use mathlib.Core.Bool.{Bool, true, false}
+use mathlib.Core.Bool.{false}
 use lib.Dec.{eqb}
+use Rattle.signer.specs.FromOne.{isWithin}
 use Rattle.signer.specs.Choice.{if_then_else_}
 use Rattle.signer.specs.Log.{identifiers, entryOf}
-use Rattle.delivery.specs.Tests.{_and_, neg}
+use Rattle.delivery.specs.Tests.{neg}
 use Rattle.delivery.specs.Limits.{limits}
 use Rattle.delivery.specs.Bus.{faults, quorum, overlap}
-use Rattle.delivery.specs.Rounds.{isRound, coordinator, phaseOf, identifierOf}
+use Rattle.delivery.specs.Rounds.{coordinator, phaseOf, identifierOf}
 use Rattle.delivery.specs.Delivered.{nothingDelivered, heard, deliver}
 use Rattle.delivery.specs.Acceptance.{allowed, acceptsBallot}
 use Rattle.delivery.specs.declared.delivered.Delivered.{Delivered}
@@ -36,7 +37,7 @@ letter-b = (refl, refl, refl, refl)
 
 -- letter c: the identifiers of the last round; its ballot's is the highest that there is
 pub letter-c : (identifierOf limits Opening (limits .rounds) ≡ 63) × (identifierOf limits Ballot (limits .rounds) ≡ identifiers)
-unfolding identifierOf phaseOf isRound _and_ if_then_else_
+unfolding identifierOf phaseOf isWithin if_then_else_
 letter-c = (refl, refl)
 
 -- A board that has delivered the opening of round 1 with 9, which board 1 sends, and some ballots of round 1.

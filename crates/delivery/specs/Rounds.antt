@@ -1,18 +1,17 @@
 -- Document 01, "Words and sizes": rounds, their coordinators, and the identifiers of their statements.
 use Prim.Native.Nat.{ℕ, _+_, _-_, _*_, _%_}
 use mathlib.Core.Bool.{Bool}
-use lib.Dec.{leb}
+use Rattle.signer.specs.FromOne.{isWithin}
 use Rattle.signer.specs.Choice.{if_then_else_}
-use Rattle.delivery.specs.Tests.{_and_}
 use Rattle.delivery.specs.Limits.{Limits}
 use Rattle.delivery.specs.declared.round.Phase.{Phase}
 use Rattle.delivery.specs.declared.round.Phase.the-variants.{Opening, Ballot}
 
 -- rounds are the numbers from 1 to the last
-unfoldable pub isRound : Limits → ℕ → Bool
-isRound L r = leb 1 r and leb r (L .rounds)
+abbrev pub isRound : Limits → ℕ → Bool
+isRound L r = isWithin (L .rounds) r
 
--- the coordinator of round r among n boards: 1, 2, .. n, and again from 1
+-- the coordinator of round r among n boards: 1, 2, .. n, and again from 1 (a number modulo 0 is the number)
 unfoldable pub coordinator : ℕ → ℕ → ℕ
 coordinator n r = (r - 1) % n + 1
 

@@ -1,6 +1,9 @@
--- Laws of lists numbered from 1. Assumes nothing.
+-- Laws of numbers from 1, and of lists numbered so. Assumes nothing.
 use Prim.Native.Nat.{ℕ, zero, suc, _-_, _≤_, _<_}
-use mathlib.Core.Path.{_≡_, refl, ap, _∙_}
+use mathlib.Core.Path.{_≡_, refl, sym, ap, _∙_}
+use mathlib.Core.Bool.{true, false}
+use borrow.Author.Tests.{le-leb, leb-true, leb-false}
+use lib.Dec.{leb}
 use mathlib.Core.List.{List, [], _∷_}
 use mathlib.Core.Logic.{_⊎_, inl, inr}
 use native.Mathlib.Omega.{arith}
@@ -8,7 +11,34 @@ use native.Mathlib.Nat.{not-suc-le-zero, le-of-suc-le-suc}
 use native.Mathlib.Decide.{ℕ-discrete, decLt}
 use lib.ListN.{length, getD, set, replicate, length-set, List·getD-eq-default}
 use lib.Seq.{getD-set-same, getD-set-other, set-out, set-getD}
-use Rattle.signer.specs.FromOne.{nth, setNth}
+use Rattle.signer.specs.FromOne.{isWithin, nth, setNth}
+use Rattle.signer.proofs.ChoiceLaws.{and-left, and-right}
+
+-- the numbers from 1 to a limit
+module _ (limit k : ℕ) where
+  pub within-low : isWithin limit k ≡ true → 1 ≤ k
+  unfolding isWithin
+  within-low h = leb-true 1 k (and-left (leb 1 k) (leb k limit) h)
+
+  pub within-high : isWithin limit k ≡ true → k ≤ limit
+  unfolding isWithin
+  within-high h = leb-true k limit (and-right (leb 1 k) (leb k limit) h)
+
+  -- from 1 on, only the limit is left to test
+  pub within-test : 1 ≤ k → isWithin limit k ≡ leb k limit
+  unfolding isWithin
+  within-test l = rw (le-leb 1 k l)
+
+  pub within-in : 1 ≤ k → k ≤ limit → isWithin limit k ≡ true
+  within-in l h = within-test l ∙ le-leb k limit h
+
+  -- a number that is none of them is 0 or above the limit
+  pub within-out : isWithin limit k ≡ false → 1 ≤ k → limit < k
+  within-out h l = leb-false k limit (sym (within-test l) ∙ h)
+
+  pub within-zero : k ≡ 0 → isWithin limit k ≡ false
+  unfolding isWithin
+  within-zero e = rw e
 
 from-one : (k : ℕ) → 1 ≤ k → k ≡ suc (k - 1)
 from-one k h = omega arith

@@ -1,17 +1,17 @@
--- Laws of identifiers and logs. Assumes nothing.
+-- Laws of logs. Assumes nothing.
 use Prim.Native.Nat.{ℕ, _-_, _≤_, _<_}
 use mathlib.Core.Path.{_≡_, ap, subst⁻¹, _∙_}
 use mathlib.Core.List.{List}
 use mathlib.Core.Bool.{true, false}
 use native.Mathlib.Omega.{arith}
 use native.Mathlib.Decide.{ℕ-discrete}
-use borrow.Author.Tests.{le-leb, leb-true, leb-false}
-use lib.Dec.{leb}
 use lib.ListN.{length, getD, set, length-replicate}
 use Rattle.signer.specs.Log.{isIdentifier, emptyLog, entryAt, withEntry}
 use Rattle.signer.specs.declared.log.Log.{Log}
-use Rattle.signer.proofs.ChoiceLaws.{and-left, and-right}
 use Rattle.signer.proofs.FromOneLaws.{
+  within-low,
+  within-high,
+  within-out,
   nth-index,
   setNth-index,
   nth-none,
@@ -21,24 +21,6 @@ use Rattle.signer.proofs.FromOneLaws.{
   nth-set-other,
   nth-replicate,
 }
-
--- an identifier is a number from 1 to the limit
-pub identifier-low : (limit i : ℕ) → isIdentifier limit i ≡ true → 1 ≤ i
-unfolding isIdentifier
-identifier-low limit i h = leb-true 1 i (and-left (leb 1 i) (leb i limit) h)
-
-pub identifier-high : (limit i : ℕ) → isIdentifier limit i ≡ true → i ≤ limit
-unfolding isIdentifier
-identifier-high limit i h = leb-true i limit (and-right (leb 1 i) (leb i limit) h)
-
-pub identifier-in : (limit i : ℕ) → 1 ≤ i → i ≤ limit → isIdentifier limit i ≡ true
-unfolding isIdentifier
-identifier-in limit i l h = rw (le-leb 1 i l) (le-leb i limit h)
-
--- a number that is none is 0 or above the limit
-pub identifier-out : (limit i : ℕ) → isIdentifier limit i ≡ false → 1 ≤ i → limit < i
-unfolding isIdentifier
-identifier-out limit i h l = leb-false i limit (rw (le-leb 1 i l) at h)
 
 -- a log that has an entry for each identifier
 pub record Whole (limit : ℕ) (l : Log) : Type 0 where
@@ -59,7 +41,7 @@ entry-empty limit i = nth-replicate limit i 0
 pub entry-same : (limit : ℕ) (l : Log) (i e : ℕ) → Whole limit l → isIdentifier limit i ≡ true → entryAt (withEntry l i e) i ≡ e
 unfolding entryAt withEntry
 entry-same limit l i e w h =
-    nth-set-same (l .entries) i e 0 (identifier-low limit i h) (omega (arith, w .whole, identifier-high limit i h))
+    nth-set-same (l .entries) i e 0 (within-low limit i h) (omega (arith, w .whole, within-high limit i h))
 
 pub entry-other : (l : Log) (i e j : ℕ) → (j ≡ i → ⊥) → entryAt (withEntry l i e) j ≡ entryAt l j
 unfolding entryAt withEntry
@@ -76,7 +58,7 @@ entry-elim limit l i e w h P j here there = go (ℕ-discrete j i)
 
 -- under a number that is no identifier a log says nothing and takes nothing
 outside : (limit : ℕ) (l : Log) (i : ℕ) → Whole limit l → isIdentifier limit i ≡ false → 1 ≤ i → length (l .entries) < i
-outside limit l i w h low = omega (arith, w .whole, identifier-out limit i h low)
+outside limit l i w h low = omega (arith, w .whole, within-out limit i h low)
 
 pub entry-outside : (limit : ℕ) (l : Log) (i : ℕ) → Whole limit l → isIdentifier limit i ≡ false → entryAt l i ≡ 0
 unfolding entryAt
@@ -90,10 +72,10 @@ with-outside limit l i e w h =
 -- where an identifier's entry stands
 pub entry-index : (limit : ℕ) (l : Log) (i : ℕ) → isIdentifier limit i ≡ true → entryAt l i ≡ getD (l .entries) (i - 1) 0
 unfolding entryAt
-entry-index limit l i h = nth-index (l .entries) i 0 (identifier-low limit i h)
+entry-index limit l i h = nth-index (l .entries) i 0 (within-low limit i h)
 
 pub with-index : (limit : ℕ) (l : Log) (i e : ℕ) → isIdentifier limit i ≡ true
     → withEntry l i e ≡ record { entries = set (l .entries) (i - 1) e }
 unfolding withEntry
 with-index limit l i e h =
-    ap (λ (es : List ℕ). record { entries = es }) (setNth-index (l .entries) i e (identifier-low limit i h))
+    ap (λ (es : List ℕ). record { entries = es }) (setNth-index (l .entries) i e (within-low limit i h))

@@ -11,16 +11,8 @@ use Rattle.signer.specs.Signer.{freshSigner, Signed, grants, sign}
 use Rattle.signer.specs.declared.signer.Signer.{Signer}
 use Rattle.signer.specs.declared.signer.Signing.{Signing}
 use Rattle.signer.proofs.ChoiceLaws.{if-elim, and-left, and-right}
-use Rattle.signer.proofs.LogLaws.{
-  Whole,
-  empty-whole,
-  with-whole,
-  entry-empty,
-  entry-same,
-  entry-other,
-  entry-elim,
-  identifier-high,
-}
+use Rattle.signer.proofs.LogLaws.{Whole, empty-whole, with-whole, entry-empty, entry-same, entry-other, entry-elim}
+use Rattle.signer.proofs.FromOneLaws.{within-high}
 
 -- what a signer is after any requests from a fresh one: its log has a place for each identifier, `last` is
 -- one or 0, and what is signed has an identifier of at most `last`
@@ -161,7 +153,7 @@ module _ (limit : ℕ) (s : Signer) (i v : ℕ) where
             (grants limit s i)
             _
             _
-            (λ g. identifier-high limit i (grants-only limit s i g .0))
+            (λ g. within-high limit i (grants-only limit s i g .0))
             (λ g. w .within);
         capped = λ j u h.
             ⊎-elim

@@ -4,7 +4,8 @@ use mathlib.Core.Path.{_≡_, refl}
 use mathlib.Core.Bool.{Bool, true, false}
 use mathlib.Core.List.{List, [], _∷_, map}
 use Rattle.signer.specs.Choice.{if_then_else_}
-use Rattle.signer.specs.Log.{identifiers, isIdentifier}
+use Rattle.signer.specs.FromOne.{isWithin}
+use Rattle.signer.specs.Log.{identifiers}
 use Rattle.signer.specs.Signer.{Request, freshSigner, grants, sign, history}
 
 -- requests under 5, 3, 5 and 6, for any four values
@@ -20,5 +21,5 @@ asked u v w x =
 pub letter-d : (u v w x : ℕ)
     → map (λ (h : Request × Bool). h .1) (history identifiers (freshSigner identifiers) (asked u v w x))
     ≡ true ∷ false ∷ false ∷ true ∷ []
-unfolding history sign if_then_else_ grants isIdentifier freshSigner
+unfolding history sign if_then_else_ grants isWithin freshSigner
 letter-d u v w x = refl

@@ -1,7 +1,13 @@
--- Lists whose elements are numbered from 1, as document 01 numbers identifiers, rounds and boards.
+-- Numbers from 1, as document 01 has them for identifiers, rounds and boards, and lists numbered so.
 use Prim.Native.Nat.{ℕ, zero, suc}
+use mathlib.Core.Bool.{Bool, _&&_}
 use mathlib.Core.List.{List}
+use lib.Dec.{leb}
 use lib.ListN.{getD, set}
+
+-- k is a number from 1 to the limit
+unfoldable pub isWithin : ℕ → ℕ → Bool
+isWithin limit k = leb 1 k && leb k limit
 
 -- element k, or d where there is none
 unfoldable pub nth : {A : Type 0} → List A → ℕ → A → A

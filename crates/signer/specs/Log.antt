@@ -1,10 +1,9 @@
 -- Document 01, "Words and sizes": identifiers, values, and what one speaker said under each identifier.
 -- A definition that depends on how many identifiers there are takes that number as `limit`.
 use Prim.Native.Nat.{ℕ, suc}
-use mathlib.Core.Bool.{Bool, _&&_}
-use lib.Dec.{leb}
+use mathlib.Core.Bool.{Bool}
 use lib.ListN.{replicate}
-use Rattle.signer.specs.FromOne.{nth, setNth}
+use Rattle.signer.specs.FromOne.{isWithin, nth, setNth}
 use Rattle.signer.specs.declared.log.Log.{Log}
 
 -- the highest identifier
@@ -12,8 +11,8 @@ abbrev pub identifiers : ℕ
 identifiers = 64
 
 -- identifiers are the numbers from 1 to the highest
-unfoldable pub isIdentifier : ℕ → ℕ → Bool
-isIdentifier limit i = leb 1 i && leb i limit
+abbrev pub isIdentifier : ℕ → ℕ → Bool
+isIdentifier limit i = isWithin limit i
 
 -- a log's entry for the value v, one more than v; so the blank (0, ⊥ in the published vote) has an
 -- entry of its own, and entry 0 is left to say that there is no statement

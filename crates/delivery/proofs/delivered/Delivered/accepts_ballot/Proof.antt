@@ -7,8 +7,8 @@ use Rattle.delivery.specs.Limits.{limits}
 use Rattle.delivery.specs.Rounds.{identifierOf}
 use Rattle.delivery.specs.Delivered.{heard}
 use Rattle.delivery.specs.declared.round.Phase.the-variants.{Ballot}
-use Rattle.delivery.proofs.AcceptanceLaws.{reads-bears}
-use Rattle.delivery.proofs.RoundsLaws.{ballot-sent, ballot-unsent, ballot-value}
+use Rattle.delivery.proofs.OneRoundLaws.{reads-bears}
+use Rattle.delivery.proofs.AllRoundsLaws.{ballot-sent, ballot-unsent, ballot-value}
 use Rattle.delivery.proofs.delivered.Delivered.accepts_ballot.Statement.{statement}
 use Rattle.delivery.proofs.delivered.Delivered.accepts_ballot.Tie as tie
 

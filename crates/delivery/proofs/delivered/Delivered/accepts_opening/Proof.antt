@@ -1,8 +1,8 @@
 -- `Delivered::accepts_opening` meets its contract. Assumes nothing.
 use borrow.Author.Needs.{needs}
-use mathlib.Core.Path.{_≡_, sym, _∙_}
-use Rattle.delivery.proofs.AcceptanceLaws.{says-entry}
-use Rattle.delivery.proofs.RoundsLaws.{opening-sent, opening-unsent}
+use mathlib.Core.Path.{sym, _∙_}
+use Rattle.delivery.proofs.OneRoundLaws.{says-entry}
+use Rattle.delivery.proofs.AllRoundsLaws.{opening-sent, opening-unsent}
 use Rattle.delivery.proofs.delivered.Delivered.accepts_opening.Statement.{statement}
 use Rattle.delivery.proofs.delivered.Delivered.accepts_opening.Tie as tie
 

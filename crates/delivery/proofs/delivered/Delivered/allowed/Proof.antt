@@ -1,6 +1,6 @@
 -- `Delivered::allowed` meets its contract. Assumes nothing.
 use borrow.Author.Needs.{needs}
-use Rattle.delivery.proofs.AcceptanceLaws.{says-entry}
+use Rattle.delivery.proofs.OneRoundLaws.{says-entry}
 use Rattle.delivery.proofs.delivered.Delivered.allowed.Statement.{statement}
 use Rattle.delivery.proofs.delivered.Delivered.allowed.Tie as tie
 

@@ -3,13 +3,13 @@
 use Prim.Native.Nat.{ℕ, _-_, _≤_}
 use borrow.Author.Needs.{needs}
 use native.Mathlib.Omega.{arith}
-use mathlib.Core.Path.{_≡_, sym, ap, _∙_}
+use mathlib.Core.Path.{_≡_, sym, _∙_}
 use mathlib.Core.Logic.{inl}
 use Rattle.delivery.specs.Limits.{limits}
 use Rattle.delivery.specs.Delivered.{heard}
-use Rattle.delivery.specs.Acceptance.{says, allowed}
+use Rattle.delivery.specs.Acceptance.{allowed}
 use Rattle.delivery.specs.Allowance.{among}
-use Rattle.delivery.proofs.RoundsLaws.{allowed-none, allowed-blank, says-low, says-none}
+use Rattle.delivery.proofs.AllRoundsLaws.{allowed-none, allowed-blank, says-low, says-none}
 use Rattle.delivery.proofs.PassLaws.{says-among, only-among, every-first, next-allowed, says-allowed}
 use Rattle.delivery.proofs.delivered.Delivered.allows.Statement.{statement}
 use Rattle.delivery.proofs.delivered.Delivered.allows.Tie as tie

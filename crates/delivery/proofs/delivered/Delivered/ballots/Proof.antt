@@ -11,8 +11,8 @@ use Rattle.delivery.specs.Sets.{setOf, union}
 use Rattle.delivery.specs.Delivered.{heard}
 use Rattle.delivery.specs.Acceptance.{says, bears, allowed}
 use Rattle.delivery.proofs.SetLaws.{set-cong, union-sets}
-use Rattle.delivery.proofs.AcceptanceLaws.{says-entry}
-use Rattle.delivery.proofs.RoundsLaws.{some-unopened, some-opened-or}
+use Rattle.delivery.proofs.OneRoundLaws.{says-entry}
+use Rattle.delivery.proofs.AllRoundsLaws.{some-unopened, some-opened-or}
 use Rattle.delivery.proofs.PassLaws.{bearing-fits}
 use Rattle.delivery.proofs.delivered.Delivered.ballots.Statement.{statement}
 use Rattle.delivery.proofs.delivered.Delivered.ballots.Tie as tie

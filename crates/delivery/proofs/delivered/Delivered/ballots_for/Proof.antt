@@ -8,8 +8,8 @@ use Rattle.delivery.specs.Sets.{setOf}
 use Rattle.delivery.specs.Delivered.{heard}
 use Rattle.delivery.specs.Acceptance.{bears}
 use Rattle.delivery.proofs.SetLaws.{set-cong, set-none}
-use Rattle.delivery.proofs.AcceptanceLaws.{says-entry}
-use Rattle.delivery.proofs.RoundsLaws.{ballot-sent, ballot-unopened}
+use Rattle.delivery.proofs.OneRoundLaws.{says-entry}
+use Rattle.delivery.proofs.AllRoundsLaws.{ballot-sent, ballot-unopened}
 use Rattle.delivery.proofs.delivered.Delivered.ballots_for.Statement.{statement}
 use Rattle.delivery.proofs.delivered.Delivered.ballots_for.Tie as tie
 

@@ -8,7 +8,7 @@ use Rattle.delivery.specs.Limits.{limits}
 use Rattle.delivery.specs.Sets.{setOf}
 use Rattle.delivery.specs.Delivered.{heard}
 use Rattle.delivery.proofs.SetLaws.{set-none}
-use Rattle.delivery.proofs.AcceptanceLaws.{says-nothing}
+use Rattle.delivery.proofs.OneRoundLaws.{says-nothing}
 use Rattle.delivery.proofs.PassLaws.{bearing-found}
 use Rattle.delivery.proofs.delivered.Delivered.bearing.Statement.{statement}
 use Rattle.delivery.proofs.delivered.Delivered.bearing.Tie as tie

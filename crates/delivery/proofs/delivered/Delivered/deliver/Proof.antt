@@ -6,11 +6,10 @@ use native.Mathlib.Omega.{arith}
 use mathlib.Core.Path.{_≡_, sym, _∙_}
 use mathlib.Core.Bool.{true}
 use lib.ListN.{length-map}
-use Rattle.signer.proofs.FromOneLaws.{setNth-index}
+use Rattle.signer.proofs.FromOneLaws.{setNth-index, within-high, within-low}
 use Rattle.delivery.specs.Limits.{limits}
 use Rattle.delivery.specs.Bus.{isBoard}
 use Rattle.delivery.specs.Delivered.{heard}
-use Rattle.delivery.proofs.BoardLaws.{board-low, board-high}
 use Rattle.delivery.proofs.DeliveredLaws.{deliver-new, deliver-there, deliver-nobody}
 use Rattle.delivery.proofs.delivered.Delivered.deliver.Statement.{statement}
 use Rattle.delivery.proofs.delivered.Delivered.deliver.Tie as tie
@@ -61,7 +60,7 @@ board c =
     sym (e .before .is-board .ensures) ∙ not-false _ (e .if2 .left)
 
 sub-logs : tie.Need-sub-logs
-sub-logs c = board-low limits _ (board c)
+sub-logs c = within-low (limits .boards) _ (board c)
 
 cast-logs : tie.Need-cast-logs
 cast-logs c = search needs
@@ -72,14 +71,14 @@ mul-logs c = search needs
 array-set-from-logs : tie.Need-array-set-from-logs
 array-set-from-logs c =
     let k = c .before .before .before .before .before .before .before .before .args .speaker in
-    omega (arith, board-low limits k (board c), board-high limits k (board c))
+    omega (arith, within-low (limits .boards) k (board c), within-high (limits .boards) k (board c))
 
 returns-3 : tie.Need-returns-3
 returns-3 c =
     let e = c .before .before .before .before .before .before in
     let s = e .before .before in
     let none : heard limits (s .args .self) (s .args .speaker) (s .args .id .0) ≡ 0 = sym (e .before .entry .ensures) ∙ e .if1 .left in
-    rw (c .before .with-entry .ensures, c .before .before .entry-of .ensures, c .before .before .before .log .ensures, deliver-new limits (s .args .self) (s .args .speaker) (s .args .id .0) (s .args .value) none, setNth-index (s .args .self .logs) (s .args .speaker) _ (board-low limits _ (board c)))
+    rw (c .before .with-entry .ensures, c .before .before .entry-of .ensures, c .before .before .before .log .ensures, deliver-new limits (s .args .self) (s .args .speaker) (s .args .id .0) (s .args .value) none, setNth-index (s .args .self .logs) (s .args .speaker) _ (within-low (limits .boards) _ (board c)))
 
 pub deliver-spec : {M : Type 1} → statement M
 deliver-spec =

@@ -9,8 +9,7 @@ use lib.ListN.{length, length-map}
 use Rattle.delivery.specs.Limits.{limits}
 use Rattle.delivery.specs.Bus.{isBoard}
 use Rattle.delivery.specs.Delivered.{logOf}
-use Rattle.delivery.proofs.BoardLaws.{board-low, board-high}
-use Rattle.signer.proofs.FromOneLaws.{nth-any}
+use Rattle.signer.proofs.FromOneLaws.{within-high, within-low, nth-any}
 use Rattle.delivery.proofs.DeliveredLaws.{log-nobody}
 use Rattle.delivery.proofs.delivered.Delivered.log.Statement.{statement}
 use Rattle.delivery.proofs.delivered.Delivered.log.Tie as tie
@@ -40,7 +39,7 @@ board : (c : tie.After-logs) → isBoard limits (c .before .before .before .args
 board c = sym (c .before .before .is-board .ensures) ∙ not-false _ (c .before .if1 .left)
 
 sub-result : tie.Need-sub-result
-sub-result c = board-low limits _ (board c)
+sub-result c = within-low (limits .boards) _ (board c)
 
 cast-result : tie.Need-cast-result
 cast-result c = search needs
@@ -51,7 +50,7 @@ mul-result c = search needs
 array-copy-out-result : tie.Need-array-copy-out-result
 array-copy-out-result c =
     let k = c .before .before .before .args .speaker in
-    omega (arith, board-low limits k (board c), board-high limits k (board c))
+    omega (arith, within-low (limits .boards) k (board c), within-high (limits .boards) k (board c))
 
 returns-2 : tie.Need-returns-2
 unfolding logOf
@@ -64,8 +63,8 @@ returns-2 c =
     k
     _
     _
-    (board-low limits k (board (c .before)))
-    (omega (arith, size s, board-high limits k (board (c .before)))))
+    (within-low (limits .boards) k (board (c .before)))
+    (omega (arith, size s, within-high (limits .boards) k (board (c .before)))))
 
 pub log-spec : {M : Type 1} → statement M
 log-spec =

@@ -9,8 +9,7 @@ use mathlib.Core.List.{List}
 use mathlib.Core.Bool.{true, false}
 use lib.ListN.{length, length-map}
 use Rattle.signer.specs.Log.{isIdentifier}
-use Rattle.signer.proofs.FromOneLaws.{setNth-none, setNth-index}
-use Rattle.signer.proofs.LogLaws.{identifier-low, identifier-high, identifier-out}
+use Rattle.signer.proofs.FromOneLaws.{setNth-none, setNth-index, within-low, within-high, within-out}
 use Rattle.delivery.specs.Limits.{limits}
 use Rattle.delivery.specs.Owed.{withReceiversAt}
 use Rattle.delivery.proofs.owed.Copies.with_receivers.Statement.{statement}
@@ -29,14 +28,14 @@ returns c =
     sym
     (ap
     (λ (rs : List ℕ). record { receivers = rs })
-    (setNth-none (s .args .self .receivers) i (s .args .set) (λ l. omega (arith, len, identifier-out (limits .identifiers) i out l))))
+    (setNth-none (s .args .self .receivers) i (s .args .set) (λ l. omega (arith, len, within-out (limits .identifiers) i out l))))
 
 in-range : (c : tie.After-receivers)
     → isIdentifier (limits .identifiers) (c .before .before .before .args .id .0) ≡ true
 in-range c = sym (c .before .before .in-range .ensures) ∙ not-false _ (c .before .if1 .left)
 
 sub-receivers : tie.Need-sub-receivers
-sub-receivers c = identifier-low (limits .identifiers) _ (in-range c)
+sub-receivers c = within-low (limits .identifiers) _ (in-range c)
 
 cast-receivers : tie.Need-cast-receivers
 cast-receivers c = search needs
@@ -47,13 +46,13 @@ mul-receivers c = search needs
 array-write-receivers : tie.Need-array-write-receivers
 array-write-receivers c =
     let i = c .before .before .before .args .id .0 in
-    omega (arith, identifier-low (limits .identifiers) i (in-range c), identifier-high (limits .identifiers) i (in-range c))
+    omega (arith, within-low (limits .identifiers) i (in-range c), within-high (limits .identifiers) i (in-range c))
 
 returns-2 : tie.Need-returns-2
 unfolding withReceiversAt
 returns-2 c =
     let s = c .before .before .before in
-    rw (setNth-index (s .args .self .receivers) (s .args .id .0) (s .args .set) (identifier-low (limits .identifiers) _ (in-range c)))
+    rw (setNth-index (s .args .self .receivers) (s .args .id .0) (s .args .set) (within-low (limits .identifiers) _ (in-range c)))
 
 pub with-receivers-spec : {M : Type 1} → statement M
 with-receivers-spec =

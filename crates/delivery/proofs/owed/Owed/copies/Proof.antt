@@ -6,12 +6,10 @@ use native.Mathlib.Omega.{arith}
 use mathlib.Core.Path.{_≡_, sym, _∙_}
 use mathlib.Core.Bool.{true, false}
 use lib.ListN.{length, length-map}
-use Rattle.signer.proofs.FromOneLaws.{nth-none}
+use Rattle.signer.proofs.FromOneLaws.{nth-none, within-high, within-low, within-out, nth-any}
 use Rattle.delivery.specs.Limits.{limits}
 use Rattle.delivery.specs.Bus.{isBoard}
 use Rattle.delivery.specs.Owed.{noCopies, copiesOf}
-use Rattle.delivery.proofs.BoardLaws.{board-low, board-high, board-out}
-use Rattle.signer.proofs.FromOneLaws.{nth-any}
 use Rattle.delivery.proofs.owed.Owed.copies.Statement.{statement}
 use Rattle.delivery.proofs.owed.Owed.copies.Tie as tie
 
@@ -31,13 +29,13 @@ returns c =
     let k = s .args .speaker in
     let out : isBoard limits k ≡ false = sym (c .before .before .is-board .ensures) ∙ not-true _ (c .before .if1 .taken) in
     c .none .ensures
-    ∙ sym (nth-none (s .args .self .speakers) k (noCopies limits) (λ l. omega (arith, size s, board-out limits k out l)))
+    ∙ sym (nth-none (s .args .self .speakers) k (noCopies limits) (λ l. omega (arith, size s, within-out (limits .boards) k out l)))
 
 board : (c : tie.After-speakers) → isBoard limits (c .before .before .before .args .speaker) ≡ true
 board c = sym (c .before .before .is-board .ensures) ∙ not-false _ (c .before .if1 .left)
 
 sub-result : tie.Need-sub-result
-sub-result c = board-low limits _ (board c)
+sub-result c = within-low (limits .boards) _ (board c)
 
 cast-result : tie.Need-cast-result
 cast-result c = search needs
@@ -48,7 +46,7 @@ mul-result c = search needs
 array-copy-out-result : tie.Need-array-copy-out-result
 array-copy-out-result c =
     let k = c .before .before .before .args .speaker in
-    omega (arith, board-low limits k (board c), board-high limits k (board c))
+    omega (arith, within-low (limits .boards) k (board c), within-high (limits .boards) k (board c))
 
 returns-2 : tie.Need-returns-2
 unfolding copiesOf
@@ -61,8 +59,8 @@ returns-2 c =
     k
     _
     _
-    (board-low limits k (board (c .before)))
-    (omega (arith, size s, board-high limits k (board (c .before)))))
+    (within-low (limits .boards) k (board (c .before)))
+    (omega (arith, size s, within-high (limits .boards) k (board (c .before)))))
 
 pub copies-spec : {M : Type 1} → statement M
 copies-spec =

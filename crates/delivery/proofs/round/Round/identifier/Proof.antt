@@ -6,7 +6,8 @@ use mathlib.Core.Path.{_≡_, sym, _∙_}
 use mathlib.Core.Bool.{true}
 use Rattle.delivery.specs.Limits.{limits}
 use Rattle.delivery.specs.Rounds.{isRound, phaseOf}
-use Rattle.delivery.proofs.RoundLaws.{round-low, round-high, identifier-at, identifier-none}
+use Rattle.delivery.proofs.RoundLaws.{identifier-at, identifier-none}
+use Rattle.signer.proofs.FromOneLaws.{within-high, within-low}
 use Rattle.delivery.proofs.round.Round.identifier.Statement.{statement}
 use Rattle.delivery.proofs.round.Round.identifier.Tie as tie
 
@@ -23,16 +24,16 @@ enum-told : tie.Need-enum-told
 enum-told c = search needs
 
 mul-t7 : tie.Need-mul-t7
-mul-t7 c = omega (arith, round-high limits _ (in-range (c .before .before)))
+mul-t7 c = omega (arith, within-high (limits .rounds) _ (in-range (c .before .before)))
 
 sub-t8 : tie.Need-sub-t8
-sub-t8 c = omega (arith, round-low limits _ (in-range (c .before .before)))
+sub-t8 c = omega (arith, within-low (limits .rounds) _ (in-range (c .before .before)))
 
 enum-told-2 : tie.Need-enum-told-2
 enum-told-2 c = search needs
 
 mul-t9 : tie.Need-mul-t9
-mul-t9 c = omega (arith, round-high limits _ (in-range (c .before .before)))
+mul-t9 c = omega (arith, within-high (limits .rounds) _ (in-range (c .before .before)))
 
 returns-2 : tie.Need-returns-2
 unfolding phaseOf

@@ -7,7 +7,8 @@ use mathlib.Core.Path.{_≡_, sym, _∙_}
 use mathlib.Core.Bool.{true}
 use lib.ListN.{length, length-map}
 use Rattle.signer.specs.Log.{identifiers, isIdentifier}
-use Rattle.signer.proofs.LogLaws.{identifier-low, identifier-high, entry-outside, entry-index}
+use Rattle.signer.proofs.LogLaws.{entry-outside, entry-index}
+use Rattle.signer.proofs.FromOneLaws.{within-low, within-high}
 use Rattle.signer.proofs.log.Log.entry.Statement.{statement}
 use Rattle.signer.proofs.log.Log.entry.Tie as tie
 
@@ -30,7 +31,7 @@ in-range : (c : tie.After-entries) → isIdentifier identifiers (c .before .befo
 in-range c = sym (c .before .before .in-range .ensures) ∙ not-false _ (c .before .if1 .left)
 
 sub-result : tie.Need-sub-result
-sub-result c = identifier-low identifiers _ (in-range c)
+sub-result c = within-low identifiers _ (in-range c)
 
 cast-result : tie.Need-cast-result
 cast-result c = search needs
@@ -41,7 +42,7 @@ mul-result c = search needs
 array-read-result : tie.Need-array-read-result
 array-read-result c =
     let i = c .before .before .before .args .id .0 in
-    omega (arith, identifier-low identifiers i (in-range c), identifier-high identifiers i (in-range c))
+    omega (arith, within-low identifiers i (in-range c), within-high identifiers i (in-range c))
 
 returns-2 : tie.Need-returns-2
 returns-2 c = sym (entry-index identifiers (c .before .before .before .args .self) _ (in-range c))

@@ -7,7 +7,8 @@ use mathlib.Core.Path.{_≡_, sym, _∙_}
 use mathlib.Core.Bool.{true}
 use lib.ListN.{length, length-map}
 use Rattle.signer.specs.Log.{identifiers, isIdentifier}
-use Rattle.signer.proofs.LogLaws.{identifier-low, identifier-high, with-outside, with-index}
+use Rattle.signer.proofs.LogLaws.{with-outside, with-index}
+use Rattle.signer.proofs.FromOneLaws.{within-low, within-high}
 use Rattle.signer.proofs.log.Log.with_entry.Statement.{statement}
 use Rattle.signer.proofs.log.Log.with_entry.Tie as tie
 
@@ -31,7 +32,7 @@ in-range : (c : tie.After-entries) → isIdentifier identifiers (c .before .befo
 in-range c = sym (c .before .before .in-range .ensures) ∙ not-false _ (c .before .if1 .left)
 
 sub-entries : tie.Need-sub-entries
-sub-entries c = identifier-low identifiers _ (in-range c)
+sub-entries c = within-low identifiers _ (in-range c)
 
 cast-entries : tie.Need-cast-entries
 cast-entries c = search needs
@@ -42,7 +43,7 @@ mul-entries c = search needs
 array-write-entries : tie.Need-array-write-entries
 array-write-entries c =
     let i = c .before .before .before .args .id .0 in
-    omega (arith, identifier-low identifiers i (in-range c), identifier-high identifiers i (in-range c))
+    omega (arith, within-low identifiers i (in-range c), within-high identifiers i (in-range c))
 
 returns-2 : tie.Need-returns-2
 returns-2 c = sym (with-index identifiers (c .before .before .before .args .self) _ _ (in-range c))

@@ -1,4 +1,4 @@
--- Laws of what is allowed from round to round, and of acceptance by it. Assumes nothing.
+-- Laws of what is allowed from round to round, and of what is accepted by it. Assumes nothing.
 use Prim.Native.Nat.{ℕ, zero, suc, _+_, _≤_, _<_}
 use native.Mathlib.Omega.{arith}
 use native.Mathlib.Numerals.{add-one}
@@ -12,7 +12,7 @@ use Rattle.delivery.specs.Limits.{Limits}
 use Rattle.delivery.specs.Delivered.{Store}
 use Rattle.delivery.specs.Acceptance.{says, bears, opens, counts, countsSome, allowedAfter, allowed, acceptsOpening, acceptsBallot, acceptsSome}
 use Rattle.delivery.proofs.TestLaws.{fails, decided, same-test, or-cases, or-left, or-right}
-use Rattle.delivery.proofs.AcceptanceLaws.{ballotEntry, says-value, value-says, openingEntry, Opens, opens-reads, reads-opens, bears-reads, reads-bears, counts-reads, reads-counts, some-reads, reads-some, ballot-opened, after-reads}
+use Rattle.delivery.proofs.OneRoundLaws.{ballotEntry, says-value, value-says, openingEntry, Opens, opens-reads, reads-opens, bears-reads, reads-bears, counts-reads, reads-counts, some-reads, reads-some, ballot-opened, after-reads, Counts, one-opening}
 
 module _ (L : Limits) (n : ℕ) (h : Store) where
   -- nothing is allowed in round 0, every value in round 1, and in a later one what the one before leaves
@@ -53,6 +53,39 @@ says-none (suc w) p f = f w
 module _ (L : Limits) (n : ℕ) (h : Store) (r : ℕ) where
   abbrev may : ℕ → Bool
   may = allowed L n h r
+
+  -- what is accepted, read and written
+  pub opening-reads : (w : ℕ) → acceptsOpening L n h r w ≡ true → Opens L n h may r w
+  unfolding acceptsOpening
+  opening-reads = opens-reads L n h may r
+
+  pub reads-opening : (w : ℕ) → Opens L n h may r w → acceptsOpening L n h r w ≡ true
+  unfolding acceptsOpening
+  reads-opening = reads-opens L n h may r
+
+  pub ballot-reads : (s w : ℕ) → acceptsBallot L n h r s w ≡ true → Counts L n h may r w s
+  unfolding acceptsBallot
+  ballot-reads s w = counts-reads L n h may r w s
+
+  pub reads-ballot : (s w : ℕ) → Counts L n h may r w s → acceptsBallot L n h r s w ≡ true
+  unfolding acceptsBallot
+  reads-ballot s w = reads-counts L n h may r w s
+
+  pub accepted-reads : (s : ℕ) → acceptsSome L n h r s ≡ true → (w : ℕ) × (acceptsBallot L n h r s w ≡ true)
+  unfolding acceptsSome
+  accepted-reads s b = let x = some-reads L n h may r s b in (x .0, reads-ballot s (x .0) (x .1))
+
+  pub reads-accepted : (s w : ℕ) → acceptsBallot L n h r s w ≡ true → acceptsSome L n h r s ≡ true
+  unfolding acceptsSome
+  reads-accepted s w b = reads-some L n h may r w s (ballot-reads s w b)
+
+  -- one round has one accepted opening, and a ballot with a value needs it
+  pub one-accepted : (v w : ℕ) → acceptsOpening L n h r v ≡ true → acceptsOpening L n h r w ≡ true → v ≡ w
+  unfolding acceptsOpening
+  one-accepted = one-opening L n h may r
+
+  pub ballot-needs : (s w : ℕ) → (w ≡ 0 → ⊥) → acceptsBallot L n h r s w ≡ true → acceptsOpening L n h r w ≡ true
+  ballot-needs s w z b = reads-opening w (ballot-opened L n h may r w s z (ballot-reads s w b))
 
   -- an opening is accepted that was sent by the coordinator, if its value is allowed
   pub opening-sent : (w : ℕ) → openingEntry L n h may r ≡ entryOf w → acceptsOpening L n h r w ≡ allowed L n h r w
