@@ -15,13 +15,12 @@ use Rattle.delivery.specs.Limits.{limits}
 use Rattle.delivery.specs.Rounds.{coordinator, phaseOf, identifierOf}
 use Rattle.delivery.specs.Delivered.{nothingDelivered, logOf, heard, deliver}
 use Rattle.delivery.specs.Acceptance.{says, bears, allowed}
-use Rattle.delivery.specs.Allowance.{among}
 use Rattle.delivery.specs.Examples.{nine-blank, blank-blank, nine-blank-blank, nine-alone, nine-nine-blank, unopened, Unopened, Letters}
 use Rattle.delivery.specs.declared.delivered.Delivered.{Delivered}
 use Rattle.delivery.proofs.TestLaws.{same-test, fails}
 use Rattle.delivery.proofs.OneRoundLaws.{some-value, value-some}
 use Rattle.delivery.proofs.AllRoundsLaws.{opening-unsent, ballot-unopened}
-use Rattle.delivery.proofs.PassLaws.{among-reads, reads-among, Counted, counted-next, every-first, next-allowed}
+use Rattle.delivery.proofs.PassLaws.{among, among-reads, reads-among, Counted, counted-next, every-first, next-allowed}
 
 -- what an allowance says of every value
 only : (v w : ℕ) → (v ≡ 0 → ⊥) → among (entryOf v) w ≡ eqb w v

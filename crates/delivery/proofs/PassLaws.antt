@@ -1,11 +1,11 @@
 -- What the program carries over the rounds stands for what is allowed. Assumes nothing.
-use Prim.Native.Nat.{ℕ, _+_, _-_, _≤_, min, _^_, _<_}
+use Prim.Native.Nat.{ℕ, _+_, _-_, _≤_, min, _^_, _<_, zero, suc}
 use native.Mathlib.Omega.{arith}
 use mathlib.Core.Path.{_≡_, refl, sym, ap, fun-ext, _∙_}
 use mathlib.Core.Bool.{Bool, true, false, true≢false}
 use mathlib.Core.Logic.{_⊎_, inl, inr, ⊎-elim}
 use mathlib.Core.List.{[], List·Memᴰ·not-nil}
-use borrow.Author.Tests.{eqb-true, eqb-false, eq-eqb, ne-eqb, leb-true, le-leb}
+use borrow.Author.Tests.{eqb-true, eq-eqb, ne-eqb, leb-true, le-leb}
 use lib.Dec.{eqb, leb}
 use lib.ListN.{length}
 use Rattle.signer.specs.Choice.{if_then_else_}
@@ -19,7 +19,6 @@ use Rattle.delivery.specs.Rounds.{identifierOf}
 use Rattle.delivery.specs.Sets.{setOf, bits}
 use Rattle.delivery.specs.Delivered.{Store, heard}
 use Rattle.delivery.specs.Acceptance.{says, bears, allowedAfter, allowed}
-use Rattle.delivery.specs.Allowance.{among}
 use Rattle.delivery.specs.declared.delivered.Delivered.{Delivered}
 use Rattle.delivery.specs.declared.round.Phase.the-variants.{Ballot}
 use Rattle.signer.proofs.FromOneLaws.{within-high}
@@ -27,7 +26,7 @@ use Rattle.delivery.proofs.CountLaws.{count-cong}
 use Rattle.delivery.proofs.SetLaws.{set-cong, set-beyond, set-fits}
 use Rattle.delivery.proofs.ChoosingLaws.{none}
 use Rattle.delivery.proofs.DeliveredLaws.{heard-nobody}
-use Rattle.delivery.proofs.TestLaws.{and-left, and-right, and-in, or-cases, or-left, or-right, same-test, fails, decided}
+use Rattle.delivery.proofs.TestLaws.{and-left, and-right, and-in, or-cases, or-left, or-right, same-test, fails}
 use Rattle.delivery.proofs.OneRoundLaws.{Opens, after-reads, openingEntry, reads-after, says-bears, says-entry, says-value, some-value, value-says, value-some, ballotEntry, bears-reads}
 use Rattle.delivery.proofs.AllRoundsLaws.{allowed-first, allowed-next, says-none}
 use Rattle.delivery.proofs.AgreementLaws.{after-was}
@@ -68,7 +67,11 @@ module _ (L : Limits) (d : Delivered) (r : ℕ) (size : length (d .logs) ≡ L .
       (λ s g. rw (bears-nobody 0 s g) (says-none x (λ (w : ℕ). bears L (heard L d) r w s) (λ w. bears-nobody w s g)))
       l
 
--- an allowance lets every value pass, or the one of its entry
+-- What the program carries over the rounds, an allowance: 0 stands for no value, 1 for every value, any other number
+-- for the value of which it is the entry. It lets w pass.
+unfoldable pub among : ℕ → ℕ → Bool
+among a w = neg (eqb w 0) and (eqb a 1 or eqb a (entryOf w))
+
 pub among-reads : (a w : ℕ) → among a w ≡ true → (w ≡ 0 → ⊥) × ((a ≡ 1) ⊎ (a ≡ entryOf w))
 unfolding among
 among-reads a w t = (
@@ -102,32 +105,37 @@ says-among a x l o =
     e
     (reads-among a (x - 1) (λ z. omega arith) (⊎-elim (λ (p : a ≡ 1). inl p) (λ (p : a ≡ x). inr (p ∙ e)) o))
 
-pub says-not-among : (a x : ℕ) → (2 ≤ x → (a ≡ 1) ⊎ (a ≡ x) → ⊥) → says x (among a) ≡ false
-says-not-among a x f =
-    fails
-    (says x (among a))
-    (λ t.
-    let y = says-value x (among a) t in
-    let m = among-reads a (y .0) (y .2) in
-    f
-    (omega (arith, y .1, m .0))
-    (⊎-elim (λ (p : a ≡ 1). inl p) (λ (p : a ≡ entryOf (y .0)). inr (p ∙ sym (y .1))) (m .1)))
+pub says-passes : (a x : ℕ) → says x (among a) ≡ (leb 2 x and (eqb a 1 or eqb a x))
+says-passes a x = same-test (says x (among a)) (leb 2 x and (eqb a 1 or eqb a x)) to from
+  where
+    to : says x (among a) ≡ true → (leb 2 x and (eqb a 1 or eqb a x)) ≡ true
+    to t =
+        let y = says-value x (among a) t in
+        let m = among-reads a (y .0) (y .2) in
+        and-in
+        (leb 2 x)
+        (eqb a 1 or eqb a x)
+        (le-leb 2 x (omega (arith, y .1, m .0)))
+        (⊎-elim
+        (λ (p : a ≡ 1). or-left (eqb a 1) (eqb a x) (eq-eqb a 1 p))
+        (λ (p : a ≡ entryOf (y .0)). or-right (eqb a 1) (eqb a x) (eq-eqb a x (p ∙ sym (y .1))))
+        (m .1))
+
+    from : (leb 2 x and (eqb a 1 or eqb a x)) ≡ true → says x (among a) ≡ true
+    from t =
+        says-among
+        a
+        x
+        (leb-true 2 x (and-left (leb 2 x) (eqb a 1 or eqb a x) t))
+        (⊎-elim
+        (λ (p : eqb a 1 ≡ true). inl (eqb-true a 1 p))
+        (λ (p : eqb a x ≡ true). inr (eqb-true a x p))
+        (or-cases (eqb a 1) (eqb a x) (and-right (leb 2 x) (eqb a 1 or eqb a x) t)))
 
 -- where not every value passes, the one of its entry does
 pub only-among : (a x : ℕ) → 2 ≤ x → (a ≡ 1 → ⊥) → eqb a x ≡ says x (among a)
-only-among a x l f =
-    same-test
-    (eqb a x)
-    (says x (among a))
-    (λ t. says-among a x l (inr (eqb-true a x t)))
-    (λ t. go (decided (eqb a x)) t)
-  where
-    go : (eqb a x ≡ true) ⊎ (eqb a x ≡ false) → says x (among a) ≡ true → eqb a x ≡ true
-    go (inl e) t = e
-    go (inr e) t =
-        absurd
-        (true≢false
-        (sym t ∙ says-not-among a x (λ l′ o. ⊎-elim (λ (p : a ≡ 1). f p) (λ (p : a ≡ x). eqb-false a x e p) o)))
+unfolding _and_ _or_
+only-among a x l f = rw (says-passes a x, le-leb 2 x l, ne-eqb a 1 f)
 
 -- one round of a bus that has boards: what is carried on from `before`
 module _ (L : Limits) (n : ℕ) (h : Store) (before r x : ℕ) (o : Opened L n h (among before) r x) (some : 1 ≤ n) where
@@ -250,8 +258,12 @@ module _ (L : Limits) (n : ℕ) (h : Store) (before r : ℕ) where
 -- a round as the program goes through it: the opening's entry x, b blank ballots and c for the opening's value
 -- leave the allowance a
 module _ (L : Limits) (n : ℕ) (h : Store) (before r x b c a : ℕ) where
+  -- the entry of the coordinator's opening
+  abbrev sent : ℕ
+  sent = openingEntry L n h (among before) r
+
   pub record Counted : Type 0 where
-    pub opening : x ≡ (if says (openingEntry L n h (among before) r) (among before) then openingEntry L n h (among before) r else 0)
+    pub opening : x ≡ (if leb 2 sent and (eqb before 1 or eqb before sent) then sent else 0)
     pub blanks : b ≡ countIn n (λ (s : ℕ). says (entryOf 0) (λ (w : ℕ). bears L h r w s))
     pub backers : c ≡ countIn n (λ (s : ℕ). says x (λ (w : ℕ). bears L h r w s))
     pub left : a ≡ (if leb (quorum n) (b + min c (overlap n - 1)) then before else (if leb (quorum n) (b + c) and leb (overlap n) c then x else 0))
@@ -259,35 +271,33 @@ module _ (L : Limits) (n : ℕ) (h : Store) (before r x b c a : ℕ) where
   pub counted-next : Counted → 1 ≤ n → (w : ℕ) → among a w ≡ allowedAfter L n h (among before) r w
   unfolding backs
   counted-next k some w =
-      let o : Opened L n h (among before) r x = rw (k .opening) (opened-entry L n h before r) in
+      let o : Opened L n h (among before) r x = rw (k .opening, ← says-passes before sent) (opened-entry L n h before r) in
       let e : countIn n (λ (s : ℕ). says (entryOf 0) (λ (v : ℕ). bears L h r v s)) ≡ countIn n (bears L h r 0) =
       count-cong n _ _ (λ s l u. says-entry 0 (λ (v : ℕ). bears L h r v s)) in
       rw (k .left, k .blanks ∙ e, k .backers) (settled-next L n h before r x o some w)
 
--- on a bus without boards no ballot is asked for
-pub nobody-next : (L : Limits) (n : ℕ) (h : Store) (before r : ℕ) → n ≡ 0 → (w : ℕ)
-    → among 1 w ≡ allowedAfter L n h (among before) r w
-nobody-next L n h before r e w =
+-- on a bus without boards no ballot is asked for, and every value is allowed
+pub nobody-allowed : (L : Limits) (n : ℕ) (h : Store) (r w : ℕ) → n ≡ 0 → 1 ≤ r → (w ≡ 0 → ⊥) → allowed L n h r w ≡ true
+nobody-allowed L n h zero w e l z = absurd (omega arith)
+nobody-allowed L n h (suc zero) w e l z = rw allowed-first (value-some w z)
+nobody-allowed L n h (suc (suc r)) w e l z =
+    let p = allowed-next L n h (suc r) w (omega arith) in
+    let m : suc r + 1 ≡ suc (suc r) = omega arith in
     rw
-    e
-    (same-test
-    (among 1 w)
-    (allowedAfter L 0 h (among before) r w)
-    (λ m.
-    reads-after
+    (← m, p, e)
+    (reads-after
     L
     0
     h
-    (among before)
-    r
+    (allowed L 0 h (suc r))
+    (suc r)
     w
     (record {
-      value = among-reads 1 w m .0;
+      value = z;
       speakers = [];
       size = refl;
       carries = record { choice = none; counted = λ s k. absurd (List·Memᴰ·not-nil k); reason = inl (omega arith) };
     }))
-    (λ t. reads-among 1 w (after-reads L 0 h (among before) r w t .value) (inl refl)))
 
 -- the pass begins with every value, and each turn goes on from what is allowed
 pub every-first : (L : Limits) (n : ℕ) (h : Store) (w : ℕ) → among 1 w ≡ allowed L n h 1 w

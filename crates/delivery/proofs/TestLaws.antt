@@ -24,6 +24,11 @@ pub and-no-left : (a b : Bool) → a ≡ false → (a and b) ≡ false
 unfolding _and_
 and-no-left a b h = rw h
 
+pub and-no-right : (a b : Bool) → b ≡ false → (a and b) ≡ false
+unfolding _and_
+and-no-right true b h = h
+and-no-right false b h = refl
+
 pub or-cases : (a b : Bool) → (a or b) ≡ true → (a ≡ true) ⊎ (b ≡ true)
 unfolding _or_
 or-cases true b h = inl refl
@@ -39,6 +44,10 @@ pub or-right : (a b : Bool) → b ≡ true → (a or b) ≡ true
 unfolding _or_
 or-right true b h = refl
 or-right false b h = h
+
+pub or-no : (a b : Bool) → a ≡ false → b ≡ false → (a or b) ≡ false
+unfolding _or_
+or-no a b p q = rw p q
 
 pub neg-true : (a : Bool) → neg a ≡ true → a ≡ false
 unfolding neg

@@ -1,6 +1,6 @@
 -- What a reader must believe of delivery, in the order of document 01: "Words and sizes" (Limits, Bus,
 -- Rounds, Sets), "Delivery" (Delivered, Owed), "What a board accepts" (Acceptance). Tests and Counting
--- hold the notions of general use that these are written in. Allowance is about private calls alone.
+-- hold the notions of general use that these are written in.
 pub mod Tests
 pub mod Counting
 pub mod Limits
@@ -10,5 +10,4 @@ pub mod Sets
 pub mod Delivered
 pub mod Owed
 pub mod Acceptance
-pub mod Allowance
 pub mod Examples

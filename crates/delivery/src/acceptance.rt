@@ -2,14 +2,13 @@ ghost use Prim.Native.Nat.{ℕ, _+_, _-_, min};
 ghost use mathlib.Core.Path.{_≡_};
 ghost use lib.Dec.{eqb, leb};
 ghost use Rattle.signer.specs.Choice.{if_then_else_};
-ghost use Rattle.delivery.specs.Tests.{_and_};
+ghost use Rattle.delivery.specs.Tests.{_and_, _or_};
 ghost use Rattle.delivery.specs.Counting.{countIn};
 ghost use Rattle.delivery.specs.Limits.{limits};
 ghost use Rattle.delivery.specs.Rounds.{coordinator, identifierOf};
 ghost use Rattle.delivery.specs.Sets.{setOf};
 ghost use Rattle.delivery.specs.Delivered.{heard};
-ghost use Rattle.delivery.specs.Acceptance.{says, bears, allowedAfter, allowed, acceptsOpening, acceptsBallot, acceptsSome};
-ghost use Rattle.delivery.specs.Allowance.{among};
+ghost use Rattle.delivery.specs.Acceptance.{says, bears, allowed, acceptsOpening, acceptsBallot, acceptsSome};
 use crate::bus;
 use crate::delivered::Delivered;
 use crate::round::Phase;
@@ -18,7 +17,7 @@ use crate::set;
 use signer::Identifier;
 use signer::Log;
 
-// What is allowed in a round, as the pass over the rounds carries it: no value, every value, or the
+// What is allowed in a round, as the pass over the rounds carries it: no value, every value, or else the
 // entry of the only value.
 const NO_VALUE: u32 = 0;
 
@@ -26,7 +25,7 @@ const EVERY_VALUE: u32 = 1;
 
 // The entry that the coordinator sent as its opening where its value is allowed, else 0.
 fn opened(before: u32, sent: u32) -> u32
-    ensures { λ r. ⌜ r ≡ (if says sent (among before) then sent else 0) ⌝ }
+    ensures { λ r. ⌜ r ≡ (if leb 2 sent and (eqb before 1 or eqb before sent) then sent else 0) ⌝ }
 {
     if sent < 2 {
         return 0;
@@ -112,21 +111,6 @@ impl Delivered {
         self.entry(round.coordinator(n), round.identifier(Phase::Opening))
     }
 
-    // What is allowed in the round after this one, if `before` is what is allowed in this one.
-    fn next(self, n: u8, round: Round, before: u32) -> u32
-        ensures { λ r. ⌜ ((w : ℕ) → among r w ≡ allowedAfter limits n (heard limits self) (among before) (round .0) w) ⌝ }
-    {
-        if n == 0 {
-            return EVERY_VALUE;
-        }
-        let opening = opened(before, self.opening(n, round));
-        let blank = self.tally(n, round, Log::entry_of(0));
-        let backing = self.tally(n, round, opening);
-        let q = bus::quorum(n);
-        let e = bus::overlap(n);
-        settled(q, e, blank, backing, before, opening)
-    }
-
     // Whether the value of this entry is allowed in a round: one pass over the rounds before it.
     fn allows(self, n: u8, round: Round, entry: u32) -> bool
         ensures { λ r. ⌜ r ≡ says entry (allowed limits n (heard limits self) (round .0)) ⌝ }
@@ -138,10 +122,20 @@ impl Delivered {
         if entry < 2 {
             return false;
         }
+        // of no boards q is 0: no ballot is asked for
+        if n == 0 {
+            return true;
+        }
+        let q = bus::quorum(n);
+        let e = bus::overlap(n);
         let mut allowance = EVERY_VALUE;
         let mut r = 1u8;
         while r < last {
-            allowance = self.next(n, Round(r), allowance);
+            let earlier = Round(r);
+            let opening = opened(allowance, self.opening(n, earlier));
+            let blank = self.tally(n, earlier, Log::entry_of(0));
+            let backing = self.tally(n, earlier, opening);
+            allowance = settled(q, e, blank, backing, allowance, opening);
             r += 1;
         }
         if allowance == EVERY_VALUE {

@@ -1,24 +1,31 @@
--- `opened` meets its contract: the tests say whether the entry's value is among those allowed.
--- Assumes nothing.
+-- `opened` meets its contract. Assumes nothing.
+use Prim.Native.Nat.{_≤_, _<_}
+use borrow.Author.Tests.{le-leb, lt-leb, eq-eqb, ne-eqb}
 use native.Mathlib.Omega.{arith}
 use mathlib.Core.Path.{sym}
-use mathlib.Core.Logic.{inl, inr, ⊎-elim}
 use Rattle.signer.proofs.ChoiceLaws.{if-true, if-false}
-use Rattle.delivery.proofs.PassLaws.{says-among, says-not-among}
+use Rattle.delivery.proofs.TestLaws.{and-in, and-no-left, and-no-right, or-left, or-right, or-no}
 use Rattle.delivery.proofs.acceptance.opened.Statement.{statement}
 use Rattle.delivery.proofs.acceptance.opened.Tie as tie
 
 returns : tie.Need-returns
-returns c = sym (if-false _ _ 0 (says-not-among _ _ (λ l o. omega arith)))
+returns c =
+    let l : c .before .args .sent < 2 = omega arith in
+    sym (if-false _ _ _ (and-no-left _ _ (lt-leb _ _ l)))
 
 returns-2 : tie.Need-returns-2
-returns-2 c = sym (if-true _ _ 0 (says-among _ _ (omega arith) (inl (c .if2 .taken))))
+returns-2 c =
+    let l : 2 ≤ c .before .before .args .sent = omega arith in
+    sym (if-true _ _ _ (and-in _ _ (le-leb _ _ l) (or-left _ _ (eq-eqb _ _ (c .if2 .taken)))))
 
 returns-3 : tie.Need-returns-3
-returns-3 c = sym (if-true _ _ 0 (says-among _ _ (omega arith) (inr (c .if3 .taken))))
+returns-3 c =
+    let l : 2 ≤ c .before .before .before .args .sent = omega arith in
+    sym (if-true _ _ _ (and-in _ _ (le-leb _ _ l) (or-right _ _ (eq-eqb _ _ (c .if3 .taken)))))
 
 returns-4 : tie.Need-returns-4
-returns-4 c = sym (if-false _ _ 0 (says-not-among _ _ (λ l o. ⊎-elim (λ p. c .before .if2 .left p) (λ p. c .if3 .left p) o)))
+returns-4 c =
+    sym (if-false _ _ _ (and-no-right _ _ (or-no _ _ (ne-eqb _ _ (c .before .if2 .left)) (ne-eqb _ _ (c .if3 .left)))))
 
 pub opened-spec : {M : Type 1} → statement M
 opened-spec = tie.close (tie.spec returns returns-2 returns-3 returns-4)
