@@ -3,24 +3,26 @@
 use Prim.Native.Nat.{ℕ, _+_, _-_, _≤_, _<_, min}
 use native.Mathlib.Omega.{arith}
 use native.Mathlib.Decide.{decLe}
-use mathlib.Core.Path.{_≡_, refl, ap, _∙_}
-use mathlib.Core.Bool.{Bool, true}
+use mathlib.Core.Path.{_≡_, refl, ap, _∙_, sym}
+use mathlib.Core.Bool.{Bool, true, true≢false}
 use mathlib.Core.Logic.{_⊎_, inl, inr, ⊎-elim}
 use mathlib.Core.List.{List}
 use borrow.Author.Tests.{eqb-true, eq-eqb, leb-true, le-leb}
 use lib.Dec.{eqb, leb}
 use lib.ListN.{length}
+use Rattle.signer.specs.Choice.{if_then_else_}
 use Rattle.signer.specs.Log.{entryOf}
+use Rattle.signer.proofs.ChoiceLaws.{if-elim}
 use Rattle.delivery.specs.Tests.{_and_, _or_, neg}
 use Rattle.delivery.specs.Counting.{countIn, countOf}
 use Rattle.delivery.specs.Limits.{Limits}
 use Rattle.delivery.specs.Bus.{quorum, overlap}
 use Rattle.delivery.specs.Delivered.{Store}
-use Rattle.delivery.specs.Acceptance.{says, bears, allowedAfter}
+use Rattle.delivery.specs.Acceptance.{says, bears, allowedAfter, opens}
 use Rattle.delivery.proofs.TestLaws.{and-left, and-right, and-in, or-cases, or-left, or-right, same-test}
 use Rattle.delivery.proofs.CountLaws.{overlap-pos, overlap-le}
 use Rattle.delivery.proofs.ChoosingLaws.{choice-within, find-member, count-alike, length-either, Chosen, choose}
-use Rattle.delivery.proofs.OneRoundLaws.{says-value, value-says, some-value, value-some, Opens, bears-reads, reads-bears, Counts, Divided, Carries, after-reads, reads-after, carried-opened}
+use Rattle.delivery.proofs.OneRoundLaws.{says-value, value-says, some-value, value-some, Opens, bears-reads, reads-bears, Counts, Divided, Carries, after-reads, reads-after, carried-opened, openingEntry, opens-reads, reads-opens}
 
 -- q of b and d: d first
 share : (q b d : ℕ) → q ≤ b + d → (q - min d q ≤ b) × (min d q ≤ d) × ((q - min d q) + min d q ≡ q)
@@ -192,15 +194,6 @@ module _ (L : Limits) (n : ℕ) (h : Store) (may : ℕ → Bool) (r x : ℕ) (o 
       z
       (t .2)
 
-  -- at least q speakers do as well as exactly q
-  pub at-least : (w : ℕ) (ss : List ℕ) → 1 ≤ n → (w ≡ 0 → ⊥) → quorum n ≤ length ss → Carries L n h may r w ss
-      → allowedAfter L n h may r w ≡ true
-  at-least w ss some z l c =
-      ⊎-elim
-      (λ k. many-allowed w z (k .0) (k .1) (k .2))
-      (λ k. few-allowed w some z (k .0) (k .1))
-      (carries-counts w ss some z l c)
-
   -- all of it as one test
   pub next-counts : (w : ℕ) → 1 ≤ n → allowedAfter L n h may r w
       ≡ (neg (eqb w 0)
@@ -257,3 +250,40 @@ module _ (L : Limits) (n : ℕ) (h : Store) (may : ℕ → Bool) (r x : ℕ) (o 
           (leb-true _ _ (and-right quorum′ enough l)))
           (λ (k : (few and may w) ≡ true). few-allowed w some z (leb-true _ _ (and-left few (may w) k)) (and-right few (may w) k))
           (or-cases (opening and quorum′ and enough) (few and may w) (and-right value (opening and quorum′ and enough or few and may w) a))
+
+-- there is always such an x
+module _ (L : Limits) (n : ℕ) (h : Store) (may : ℕ → Bool) (r : ℕ) where
+  abbrev sent : ℕ
+  sent = openingEntry L n h may r
+
+  pub opened-entry : Opened L n h may r (if says sent (opens L n h may r) then sent else 0)
+  opened-entry =
+      if-elim
+      (λ (x : ℕ). Opened L n h may r x)
+      (says sent (opens L n h may r))
+      sent
+      0
+      (λ t. record { sound = λ w e. opening t w e; complete = λ w o. o .said })
+      (λ t.
+      record {
+        sound = λ w e. absurd (omega arith);
+        complete = λ w o. absurd (true≢false (sym (value-says sent w (opens L n h may r) (o .said) (reads-opens L n h may r w o)) ∙ t));
+      })
+    where
+      opening : says sent (opens L n h may r) ≡ true → (w : ℕ) → sent ≡ entryOf w → Opens L n h may r w
+      opening t w e =
+          let y = says-value sent (opens L n h may r) t in
+          let same-value : y .0 ≡ w = omega (arith, y .1) in
+          opens-reads L n h may r w (rw same-value at (y .2))
+
+  -- so at least q speakers do as well as exactly q
+  pub at-least : (w : ℕ) (ss : List ℕ) → 1 ≤ n → (w ≡ 0 → ⊥) → quorum n ≤ length ss → Carries L n h may r w ss
+      → allowedAfter L n h may r w ≡ true
+  at-least w ss some z l c =
+      ⊎-elim
+      (λ k. many-allowed L n h may r x opened-entry w z (k .0) (k .1) (k .2))
+      (λ k. few-allowed L n h may r x opened-entry w some z (k .0) (k .1))
+      (carries-counts L n h may r x opened-entry w ss some z l c)
+    where
+      x : ℕ
+      x = if says sent (opens L n h may r) then sent else 0

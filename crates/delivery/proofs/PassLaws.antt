@@ -18,7 +18,7 @@ use Rattle.delivery.specs.Bus.{isBoard, quorum, overlap}
 use Rattle.delivery.specs.Rounds.{identifierOf}
 use Rattle.delivery.specs.Sets.{setOf, bits}
 use Rattle.delivery.specs.Delivered.{Store, heard}
-use Rattle.delivery.specs.Acceptance.{says, bears, allowedAfter, allowed}
+use Rattle.delivery.specs.Acceptance.{says, bears, allowedAfter, allowed, opens}
 use Rattle.delivery.specs.declared.delivered.Delivered.{Delivered}
 use Rattle.delivery.specs.declared.round.Phase.the-variants.{Ballot}
 use Rattle.signer.proofs.FromOneLaws.{within-high}
@@ -27,10 +27,10 @@ use Rattle.delivery.proofs.SetLaws.{set-cong, set-beyond, set-fits}
 use Rattle.delivery.proofs.ChoosingLaws.{none}
 use Rattle.delivery.proofs.DeliveredLaws.{heard-nobody}
 use Rattle.delivery.proofs.TestLaws.{and-left, and-right, and-in, or-cases, or-left, or-right, same-test, fails}
-use Rattle.delivery.proofs.OneRoundLaws.{Opens, after-reads, openingEntry, reads-after, says-bears, says-entry, says-value, some-value, value-says, value-some, ballotEntry, bears-reads}
+use Rattle.delivery.proofs.OneRoundLaws.{after-reads, openingEntry, reads-after, says-bears, says-entry, says-value, some-value, value-says, value-some, ballotEntry, bears-reads, opens-reads, reads-opens}
 use Rattle.delivery.proofs.AllRoundsLaws.{allowed-first, allowed-next, says-none}
 use Rattle.delivery.proofs.AgreementLaws.{after-was}
-use Rattle.delivery.proofs.AllowanceLaws.{Opened, backs, blank, backing, carries-counts, many-allowed, few-allowed}
+use Rattle.delivery.proofs.AllowanceLaws.{Opened, backs, blank, backing, carries-counts, many-allowed, few-allowed, opened-entry}
 
 -- a number that no board can have bears nothing
 module _ (L : Limits) (d : Delivered) (r : ℕ) (size : length (d .logs) ≡ L .boards) where
@@ -229,41 +229,41 @@ module _ (L : Limits) (n : ℕ) (h : Store) (before r x : ℕ) (o : Opened L n h
       (λ m. narrowed f m w)
       (λ m. emptied f m w))
 
--- the opening that counts, where `before` is what is allowed
+-- whether the coordinator's opening counts, where `before` is what is allowed
 module _ (L : Limits) (n : ℕ) (h : Store) (before r : ℕ) where
-  abbrev entry : ℕ
-  entry = openingEntry L n h (among before) r
+  abbrev sent : ℕ
+  sent = openingEntry L n h (among before) r
 
-  pub opened-entry : Opened L n h (among before) r (if says entry (among before) then entry else 0)
-  opened-entry =
-      if-elim
-      (λ (x : ℕ). Opened L n h (among before) r x)
-      (says entry (among before))
-      entry
-      0
-      (λ t. record { sound = λ w e. opens t w e; complete = λ w o. o .said })
+  says-opens : says sent (opens L n h (among before) r) ≡ says sent (among before)
+  says-opens =
+      same-test
+      (says sent (opens L n h (among before) r))
+      (says sent (among before))
       (λ t.
-      record {
-        sound = λ w e. absurd (omega arith);
-        complete = λ w o. absurd (true≢false (sym (value-says entry w (among before) (o .said) (o .permitted)) ∙ t));
-      })
-    where
-      opens : says entry (among before) ≡ true → (w : ℕ) → entry ≡ entryOf w → Opens L n h (among before) r w
-      opens t w e =
-          let y = says-value entry (among before) t in
-          let same : y .0 ≡ w = omega (arith, y .1) in
-          let m : among before w ≡ true = rw same at (y .2) in
-          record { said = e; value = among-reads before w m .0; permitted = m }
+      let y = says-value sent (opens L n h (among before) r) t in
+      value-says sent (y .0) (among before) (y .1) (opens-reads L n h (among before) r (y .0) (y .2) .permitted))
+      (λ t.
+      let y = says-value sent (among before) t in
+      value-says
+      sent
+      (y .0)
+      (opens L n h (among before) r)
+      (y .1)
+      (reads-opens
+      L
+      n
+      h
+      (among before)
+      r
+      (y .0)
+      (record { said = y .1; value = among-reads before (y .0) (y .2) .0; permitted = y .2 })))
 
 -- a round as the program goes through it: the opening's entry x, b blank ballots and c for the opening's value
 -- leave the allowance a
 module _ (L : Limits) (n : ℕ) (h : Store) (before r x b c a : ℕ) where
-  -- the entry of the coordinator's opening
-  abbrev sent : ℕ
-  sent = openingEntry L n h (among before) r
-
   pub record Counted : Type 0 where
-    pub opening : x ≡ (if leb 2 sent and (eqb before 1 or eqb before sent) then sent else 0)
+    pub opening : x
+        ≡ (if leb 2 (sent L n h before r) and (eqb before 1 or eqb before (sent L n h before r)) then sent L n h before r else 0)
     pub blanks : b ≡ countIn n (λ (s : ℕ). says (entryOf 0) (λ (w : ℕ). bears L h r w s))
     pub backers : c ≡ countIn n (λ (s : ℕ). says x (λ (w : ℕ). bears L h r w s))
     pub left : a ≡ (if leb (quorum n) (b + min c (overlap n - 1)) then before else (if leb (quorum n) (b + c) and leb (overlap n) c then x else 0))
@@ -271,7 +271,8 @@ module _ (L : Limits) (n : ℕ) (h : Store) (before r x b c a : ℕ) where
   pub counted-next : Counted → 1 ≤ n → (w : ℕ) → among a w ≡ allowedAfter L n h (among before) r w
   unfolding backs
   counted-next k some w =
-      let o : Opened L n h (among before) r x = rw (k .opening, ← says-passes before sent) (opened-entry L n h before r) in
+      let o : Opened L n h (among before) r x =
+      rw (k .opening, ← says-passes before (sent L n h before r), ← says-opens L n h before r) (opened-entry L n h (among before) r) in
       let e : countIn n (λ (s : ℕ). says (entryOf 0) (λ (v : ℕ). bears L h r v s)) ≡ countIn n (bears L h r 0) =
       count-cong n _ _ (λ s l u. says-entry 0 (λ (v : ℕ). bears L h r v s)) in
       rw (k .left, k .blanks ∙ e, k .backers) (settled-next L n h before r x o some w)
