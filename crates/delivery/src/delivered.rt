@@ -4,6 +4,7 @@ ghost use Rattle.delivery.specs.Bus.{isBoard};
 ghost use Rattle.delivery.specs.Delivered.{nothingDelivered, logOf, heard, deliver};
 use signer::Identifier;
 use signer::Log;
+use signer::from_one;
 
 // What one board has delivered: for each speaker, what it said under each identifier.
 pub struct Delivered {
@@ -18,10 +19,7 @@ impl Delivered {
     pub fn is_board(k: u8) -> bool
         ensures { λ r. ⌜ r ≡ isBoard limits k ⌝ }
     {
-        if k == 0 {
-            return false;
-        }
-        k <= Delivered::BOARDS
+        from_one::within(k, Delivered::BOARDS)
     }
 
     pub fn fresh() -> Delivered

@@ -2,6 +2,7 @@ ghost use mathlib.Core.Path.{_≡_};
 ghost use Rattle.delivery.specs.Limits.{limits};
 ghost use Rattle.delivery.specs.Rounds.{isRound, identifierOf, coordinator};
 use signer::Identifier;
+use signer::from_one;
 
 // The number of a round of the vote. It is no identifier: `identifier` is the one way from here to there.
 pub struct Round(pub u8);
@@ -20,10 +21,7 @@ impl Round {
     pub fn in_range(self) -> bool
         ensures { λ r. ⌜ r ≡ isRound limits (self .0) ⌝ }
     {
-        if self.0 == 0 {
-            return false;
-        }
-        self.0 <= Round::LAST
+        from_one::within(self.0, Round::LAST)
     }
 
     // The identifier under which this round's opening or ballot is signed; 0, which is none, where

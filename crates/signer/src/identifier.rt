@@ -1,5 +1,6 @@
 ghost use mathlib.Core.Path.{_≡_};
 ghost use Rattle.signer.specs.Log.{identifiers, isIdentifier};
+use crate::from_one;
 
 // The number under which a statement is signed.
 pub struct Identifier(pub u8);
@@ -12,9 +13,6 @@ impl Identifier {
     pub fn in_range(self) -> bool
         ensures { λ r. ⌜ r ≡ isIdentifier identifiers (self .0) ⌝ }
     {
-        if self.0 == 0 {
-            return false;
-        }
-        self.0 <= Identifier::LAST
+        from_one::within(self.0, Identifier::LAST)
     }
 }
