@@ -41,13 +41,14 @@ withReceivers L o s i m = withCopies o s (withReceiversAt (copiesOf L o s) i m)
 unfoldable pub lacks : ℕ → ℕ → ℕ → ℕ → Bool
 lacks sound have s k = inSet sound k and neg (eqb k s) and neg (inSet have k)
 
--- sound board s has signed under i: a copy is owed to each that lacks it
+-- sound board s has signed under i: a copy is owed to whom one was owed, and to each board that lacks the
+-- statement
 unfoldable pub afterSigning : Limits → Owed → ℕ → ℕ → ℕ → ℕ → Owed
 afterSigning L o s i sound have =
     withReceivers L o s i (setOf bits (λ (k : ℕ). inSet (receivers L o s i) k or lacks sound have s k))
 
--- sound board j has delivered what s said under i: none is owed to j any more, and one is owed to each
--- other board that lacks it (ECHO in the published vote)
+-- sound board j has delivered what s said under i: the same for every board other than j (the copies to those that
+-- lack it are the ECHO of the published vote), and none is owed to j any more
 unfoldable pub afterDelivery : Limits → Owed → ℕ → ℕ → ℕ → ℕ → ℕ → Owed
 afterDelivery L o j s i sound have =
     withReceivers
