@@ -7,7 +7,7 @@ use signer::from_one;
 // The number of a round of the vote. It is no identifier: `identifier` is the one way from here to there.
 pub struct Round(pub u8);
 
-// The two statements that a round knows.
+// The two statements that a round knows (PHASE1 and PHASE2 in the published vote).
 pub enum Phase {
     Opening,
     Ballot,
