@@ -10,7 +10,7 @@ use Rattle.signer.specs.Log.{entryOf}
 use Rattle.delivery.specs.Tests.{neg, _or_}
 use Rattle.delivery.specs.Limits.{Limits}
 use Rattle.delivery.specs.Delivered.{Store}
-use Rattle.delivery.specs.Acceptance.{says, bears, opens, counts, countsSome, allowedAfter, allowed, acceptsOpening, acceptsBallot, acceptsSome}
+use Rattle.delivery.specs.Acceptance.{says, bears, allowedAfter, allowed, acceptsOpening, acceptsBallot, acceptsSome}
 use Rattle.delivery.proofs.TestLaws.{fails, decided, same-test, or-cases, or-left, or-right}
 use Rattle.delivery.proofs.OneRoundLaws.{ballotEntry, says-value, value-says, openingEntry, Opens, opens-reads, reads-opens, bears-reads, reads-bears, counts-reads, reads-counts, some-reads, reads-some, ballot-opened, after-reads, Counts, one-opening}
 
@@ -89,55 +89,40 @@ module _ (L : Limits) (n : ℕ) (h : Store) (r : ℕ) where
 
   -- an opening is accepted that was sent by the coordinator, if its value is allowed
   pub opening-sent : (w : ℕ) → openingEntry L n h may r ≡ entryOf w → acceptsOpening L n h r w ≡ allowed L n h r w
-  unfolding acceptsOpening
   opening-sent w e =
       same-test
-      (opens L n h may r w)
+      (acceptsOpening L n h r w)
       (may w)
-      (λ o. opens-reads L n h may r w o .permitted)
-      (λ a. reads-opens L n h may r w (record { said = e; value = λ z. blank z a; permitted = a }))
-    where
-      blank : w ≡ 0 → may w ≡ true → ⊥
-      blank z a = true≢false (sym a ∙ ap may z ∙ allowed-blank L n h r)
+      (λ o. opening-reads w o .permitted)
+      (λ a.
+      reads-opening
+      w
+      (record { said = e; value = λ z. true≢false (sym a ∙ ap may z ∙ allowed-blank L n h r); permitted = a }))
 
   pub opening-unsent : (w : ℕ) → (openingEntry L n h may r ≡ entryOf w → ⊥) → acceptsOpening L n h r w ≡ false
-  unfolding acceptsOpening
-  opening-unsent w f = fails (opens L n h may r w) (λ o. f (opens-reads L n h may r w o .said))
+  opening-unsent w f = fails (acceptsOpening L n h r w) (λ o. f (opening-reads w o .said))
 
   -- a ballot is accepted that was sent, if it is blank or its opening is accepted
   pub ballot-sent : (s w : ℕ) → (w ≡ 0) ⊎ (acceptsOpening L n h r w ≡ true) → acceptsBallot L n h r s w ≡ bears L h r w s
-  unfolding acceptsBallot acceptsOpening
   ballot-sent s w o =
       same-test
-      (counts L n h may r w s)
+      (acceptsBallot L n h r s w)
       (bears L h r w s)
-      (λ b. reads-bears L h r w s (counts-reads L n h may r w s b .said))
+      (λ b. reads-bears L h r w s (ballot-reads s w b .said))
       (λ b.
-      reads-counts
-      L
-      n
-      h
-      may
-      r
-      w
+      reads-ballot
       s
+      w
       (record {
         said = bears-reads L h r w s b;
-        backed = ⊎-elim (λ (z : w ≡ 0). inl z) (λ (p : opens L n h may r w ≡ true). inr (opens-reads L n h may r w p)) o;
+        backed = ⊎-elim (λ (z : w ≡ 0). inl z) (λ (p : acceptsOpening L n h r w ≡ true). inr (opening-reads w p)) o;
       }))
 
   pub ballot-unopened : (s w : ℕ) → (w ≡ 0 → ⊥) → acceptsOpening L n h r w ≡ false → acceptsBallot L n h r s w ≡ false
-  unfolding acceptsBallot acceptsOpening
-  ballot-unopened s w z o =
-      fails
-      (counts L n h may r w s)
-      (λ b.
-      true≢false
-      (sym (reads-opens L n h may r w (ballot-opened L n h may r w s z (counts-reads L n h may r w s b))) ∙ o))
+  ballot-unopened s w z o = fails (acceptsBallot L n h r s w) (λ b. true≢false (sym (ballot-needs s w z b) ∙ o))
 
   pub ballot-unsent : (s w : ℕ) → (ballotEntry L h r s ≡ entryOf w → ⊥) → acceptsBallot L n h r s w ≡ false
-  unfolding acceptsBallot
-  ballot-unsent s w f = fails (counts L n h may r w s) (λ b. f (counts-reads L n h may r w s b .said))
+  ballot-unsent s w f = fails (acceptsBallot L n h r s w) (λ b. f (ballot-reads s w b .said))
 
   pub ballot-value : (s w : ℕ) → ballotEntry L h r s ≡ entryOf w → (w ≡ 0 → ⊥) → acceptsBallot L n h r s w ≡ acceptsOpening L n h r w
   ballot-value s w e z = go (decided (acceptsOpening L n h r w))
@@ -147,69 +132,60 @@ module _ (L : Limits) (n : ℕ) (h : Store) (r : ℕ) where
       go (inr o) = ballot-unopened s w z o ∙ sym o
 
   -- what is accepted of s is blank, or bears the value of the coordinator's opening where that is allowed
+  some-cases : (s : ℕ) → acceptsSome L n h r s ≡ true
+      → (bears L h r 0 s ≡ true)
+      ⊎ ((w : ℕ) × (openingEntry L n h may r ≡ entryOf w) × (may w ≡ true) × (bears L h r w s ≡ true))
+  some-cases s b =
+      let x = accepted-reads s b in
+      let y = ballot-reads s (x .0) (x .1) in
+      ⊎-elim
+      (λ (z : x .0 ≡ 0). inl (reads-bears L h r 0 s (y .said ∙ ap entryOf z)))
+      (λ (p : Opens L n h may r (x .0)). inr (x .0, p .said, p .permitted, reads-bears L h r (x .0) s (y .said)))
+      (y .backed)
+
+  blank-some : (s : ℕ) → bears L h r 0 s ≡ true → acceptsSome L n h r s ≡ true
+  blank-some s b = reads-accepted s 0 (ballot-sent s 0 (inl refl) ∙ b)
+
   pub some-unopened : (s : ℕ) → says (openingEntry L n h may r) may ≡ false → acceptsSome L n h r s ≡ bears L h r 0 s
-  unfolding acceptsSome
   some-unopened s o =
       same-test
-      (countsSome L n h may r s)
+      (acceptsSome L n h r s)
       (bears L h r 0 s)
       (λ b.
-      let x = some-reads L n h may r s b in
       ⊎-elim
-      (λ (z : x .0 ≡ 0). reads-bears L h r 0 s (x .1 .said ∙ ap entryOf z))
-      (λ (p : Opens L n h may r (x .0)).
-      absurd (true≢false (sym (value-says (openingEntry L n h may r) (x .0) may (p .said) (p .permitted)) ∙ o)))
-      (x .1 .backed))
-      (λ b. reads-some L n h may r 0 s (record { said = bears-reads L h r 0 s b; backed = inl refl }))
+      (λ (c : bears L h r 0 s ≡ true). c)
+      (λ c. absurd (true≢false (sym (value-says (openingEntry L n h may r) (c .0) may (c .1) (c .2)) ∙ o)))
+      (some-cases s b))
+      (blank-some s)
 
   pub some-opened-or : (s : ℕ) → says (openingEntry L n h may r) may ≡ true
       → acceptsSome L n h r s ≡ (bears L h r 0 s or says (openingEntry L n h may r) (λ (w : ℕ). bears L h r w s))
-  unfolding acceptsSome
-  some-opened-or s o =
-      same-test
-      (countsSome L n h may r s)
-      (bears L h r 0 s or says (openingEntry L n h may r) (λ (w : ℕ). bears L h r w s))
-      (λ b.
-      let x = some-reads L n h may r s b in
-      ⊎-elim
-      (λ (z : x .0 ≡ 0).
-      or-left
-      (bears L h r 0 s)
-      (says (openingEntry L n h may r) (λ (w : ℕ). bears L h r w s))
-      (reads-bears L h r 0 s (x .1 .said ∙ ap entryOf z)))
-      (λ (p : Opens L n h may r (x .0)).
-      or-right
-      (bears L h r 0 s)
-      (says (openingEntry L n h may r) (λ (w : ℕ). bears L h r w s))
-      (value-says
-      (openingEntry L n h may r)
-      (x .0)
-      (λ (w : ℕ). bears L h r w s)
-      (p .said)
-      (reads-bears L h r (x .0) s (x .1 .said))))
-      (x .1 .backed))
-      (λ b.
-      ⊎-elim
-      (λ (c : bears L h r 0 s ≡ true). reads-some L n h may r 0 s (record { said = bears-reads L h r 0 s c; backed = inl refl }))
-      (λ (c : says (openingEntry L n h may r) (λ (w : ℕ). bears L h r w s) ≡ true). backed c)
-      (or-cases (bears L h r 0 s) (says (openingEntry L n h may r) (λ (w : ℕ). bears L h r w s)) b))
+  some-opened-or s o = same-test (acceptsSome L n h r s) (blank or backing) to from
     where
-      sent : (w : ℕ) → openingEntry L n h may r ≡ entryOf w → may w ≡ true → opens L n h may r w ≡ true
-      sent w e a =
-          reads-opens
-          L
-          n
-          h
-          may
-          r
-          w
-          (record { said = e; value = λ z. true≢false (sym a ∙ ap may z ∙ allowed-blank L n h r); permitted = a })
+      blank : Bool
+      blank = bears L h r 0 s
 
-      backed : says (openingEntry L n h may r) (λ (w : ℕ). bears L h r w s) ≡ true → countsSome L n h may r s ≡ true
+      backing : Bool
+      backing = says (openingEntry L n h may r) (λ (w : ℕ). bears L h r w s)
+
+      to : acceptsSome L n h r s ≡ true → (blank or backing) ≡ true
+      to b =
+          ⊎-elim
+          (λ (c : bears L h r 0 s ≡ true). or-left blank backing c)
+          (λ c.
+          or-right
+          blank
+          backing
+          (value-says (openingEntry L n h may r) (c .0) (λ (w : ℕ). bears L h r w s) (c .1) (c .3)))
+          (some-cases s b)
+
+      backed : backing ≡ true → acceptsSome L n h r s ≡ true
       backed c =
           let x = says-value (openingEntry L n h may r) (λ (w : ℕ). bears L h r w s) c in
           let y = says-value (openingEntry L n h may r) may o in
           let e : y .0 ≡ x .0 = omega (arith, x .1, y .1) in
           let a : allowed L n h r (x .0) ≡ true = rw e at (y .2) in
-          let p : Opens L n h may r (x .0) = opens-reads L n h may r (x .0) (sent (x .0) (x .1) a) in
-          reads-some L n h may r (x .0) s (record { said = bears-reads L h r (x .0) s (x .2); backed = inr p })
+          reads-accepted s (x .0) (ballot-sent s (x .0) (inr (opening-sent (x .0) (x .1) ∙ a)) ∙ x .2)
+
+      from : (blank or backing) ≡ true → acceptsSome L n h r s ≡ true
+      from b = ⊎-elim (λ (c : blank ≡ true). blank-some s c) backed (or-cases blank backing b)

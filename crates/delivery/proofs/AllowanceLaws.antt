@@ -7,22 +7,18 @@ use mathlib.Core.Path.{_≡_, refl, ap, _∙_, sym}
 use mathlib.Core.Bool.{Bool, true, true≢false}
 use mathlib.Core.Logic.{_⊎_, inl, inr, ⊎-elim}
 use mathlib.Core.List.{List}
-use borrow.Author.Tests.{eqb-true, eq-eqb, leb-true, le-leb}
-use lib.Dec.{eqb, leb}
 use lib.ListN.{length}
 use Rattle.signer.specs.Choice.{if_then_else_}
 use Rattle.signer.specs.Log.{entryOf}
 use Rattle.signer.proofs.ChoiceLaws.{if-elim}
-use Rattle.delivery.specs.Tests.{_and_, _or_, neg}
 use Rattle.delivery.specs.Counting.{countIn, countOf}
 use Rattle.delivery.specs.Limits.{Limits}
 use Rattle.delivery.specs.Bus.{quorum, overlap}
 use Rattle.delivery.specs.Delivered.{Store}
 use Rattle.delivery.specs.Acceptance.{says, bears, allowedAfter, opens}
-use Rattle.delivery.proofs.TestLaws.{and-left, and-right, and-in, or-cases, or-left, or-right, same-test}
 use Rattle.delivery.proofs.CountLaws.{overlap-pos, overlap-le}
 use Rattle.delivery.proofs.ChoosingLaws.{choice-within, find-member, count-alike, length-either, Chosen, choose}
-use Rattle.delivery.proofs.OneRoundLaws.{says-value, value-says, some-value, value-some, Opens, bears-reads, reads-bears, Counts, Divided, Carries, after-reads, reads-after, carried-opened, openingEntry, opens-reads, reads-opens}
+use Rattle.delivery.proofs.OneRoundLaws.{says-value, value-says, Opens, bears-reads, reads-bears, Counts, Divided, Carries, reads-after, carried-opened, openingEntry, opens-reads, reads-opens}
 
 -- q of b and d: d first
 share : (q b d : ℕ) → q ≤ b + d → (q - min d q ≤ b) × (min d q ≤ d) × ((q - min d q) + min d q ≡ q)
@@ -125,10 +121,10 @@ module _ (L : Limits) (n : ℕ) (h : Store) (may : ℕ → Bool) (r x : ℕ) (o 
       (c .reason)
 
   -- and the counts give a choice of exactly q
-  carries-chosen : (w i j : ℕ) → Chosen (bears L h r 0) (backs L h r x) apart n i j
-      → ((k : Chosen (bears L h r 0) (backs L h r x) apart n i j) → (overlap n ≤ countOf (bears L h r w) (k .numbers)) ⊎ (Divided L n h may r (k .numbers) × (may w ≡ true)))
-      → (w ≡ 0 → ⊥) → i + j ≡ quorum n → allowedAfter L n h may r w ≡ true
-  carries-chosen w i j k f z e =
+  chosen-allowed : (w i j : ℕ) (k : Chosen (bears L h r 0) (backs L h r x) apart n i j) → (w ≡ 0 → ⊥) → i + j ≡ quorum n
+      → (overlap n ≤ countOf (bears L h r w) (k .numbers)) ⊎ (Divided L n h may r (k .numbers) × (may w ≡ true))
+      → allowedAfter L n h may r w ≡ true
+  chosen-allowed w i j k z e f =
       reads-after
       L
       n
@@ -140,7 +136,7 @@ module _ (L : Limits) (n : ℕ) (h : Store) (may : ℕ → Bool) (r x : ℕ) (o 
         value = z;
         speakers = k .numbers;
         size = length-either (bears L h r 0) (backs L h r x) apart (k .numbers) (k .only) ∙ (omega (arith, k .first, k .second));
-        carries = record { choice = k .choice; counted = λ s m. either-counts s (k .only s m); reason = f k };
+        carries = record { choice = k .choice; counted = λ s m. either-counts s (k .only s m); reason = f };
       })
 
   -- e of them may bear the opening's value
@@ -150,14 +146,8 @@ module _ (L : Limits) (n : ℕ) (h : Store) (may : ℕ → Bool) (r x : ℕ) (o 
       let q = quorum n in
       let c = backing L n h r x in
       let t = share q (blank L n h r) c l in
-      carries-chosen
-      w
-      (q - min c q)
-      (min c q)
-      (choose (bears L h r 0) (backs L h r x) apart n (q - min c q) (min c q) (t .0) (t .1))
-      (λ k. inl (omega (arith, same w e (k .numbers), k .second, overlap-le n)))
-      z
-      (t .2)
+      let k = choose (bears L h r 0) (backs L h r x) apart n (q - min c q) (min c q) (t .0) (t .1) in
+      chosen-allowed w (q - min c q) (min c q) k z (t .2) (inl (omega (arith, same w e (k .numbers), k .second, overlap-le n)))
 
   -- or fewer do: then they are divided
   chosen-divided : (i j : ℕ) (k : Chosen (bears L h r 0) (backs L h r x) apart n i j) → 1 ≤ overlap n → j < overlap n
@@ -185,71 +175,15 @@ module _ (L : Limits) (n : ℕ) (h : Store) (may : ℕ → Bool) (r x : ℕ) (o 
       let t = share q (blank L n h r) d l in
       let few : min d q < overlap n = omega (arith, t .1, below (backing L n h r x) (overlap n) (overlap-pos n some) .1) in
       let most : min d q ≤ backing L n h r x = omega (arith, t .1, below (backing L n h r x) (overlap n) (overlap-pos n some) .0) in
-      carries-chosen
+      let k = choose (bears L h r 0) (backs L h r x) apart n (q - min d q) (min d q) (t .0) most in
+      chosen-allowed
       w
       (q - min d q)
       (min d q)
-      (choose (bears L h r 0) (backs L h r x) apart n (q - min d q) (min d q) (t .0) most)
-      (λ k. inr (chosen-divided (q - min d q) (min d q) k (overlap-pos n some) few, m))
+      k
       z
       (t .2)
-
-  -- all of it as one test
-  pub next-counts : (w : ℕ) → 1 ≤ n → allowedAfter L n h may r w
-      ≡ (neg (eqb w 0)
-      and (eqb x (entryOf w) and leb (quorum n) (blank L n h r + backing L n h r x) and leb (overlap n) (backing L n h r x)
-      or leb (quorum n) (blank L n h r + min (backing L n h r x) (overlap n - 1)) and may w))
-  next-counts w some = same-test _ _ to from
-    where
-      value : Bool
-      value = neg (eqb w 0)
-
-      opening : Bool
-      opening = eqb x (entryOf w)
-
-      quorum′ : Bool
-      quorum′ = leb (quorum n) (blank L n h r + backing L n h r x)
-
-      enough : Bool
-      enough = leb (overlap n) (backing L n h r x)
-
-      few : Bool
-      few = leb (quorum n) (blank L n h r + min (backing L n h r x) (overlap n - 1))
-
-      to : allowedAfter L n h may r w ≡ true → (value and (opening and quorum′ and enough or few and may w)) ≡ true
-      to a =
-          let y = after-reads L n h may r w a in
-          and-in
-          value
-          _
-          (value-some w (y .value))
-          (⊎-elim
-          (λ k.
-          or-left
-          (opening and quorum′ and enough)
-          (few and may w)
-          (and-in
-          opening
-          (quorum′ and enough)
-          (eq-eqb x (entryOf w) (k .0))
-          (and-in quorum′ enough (le-leb _ _ (k .1)) (le-leb _ _ (k .2)))))
-          (λ k. or-right (opening and quorum′ and enough) (few and may w) (and-in few (may w) (le-leb _ _ (k .0)) (k .1)))
-          (carries-counts w (y .speakers) some (y .value) (omega (arith, y .size)) (y .carries)))
-
-      from : (value and (opening and quorum′ and enough or few and may w)) ≡ true → allowedAfter L n h may r w ≡ true
-      from a =
-          let z = some-value w (and-left value (opening and quorum′ and enough or few and may w) a) in
-          ⊎-elim
-          (λ (k : (opening and quorum′ and enough) ≡ true).
-          let l = and-right opening (quorum′ and enough) k in
-          many-allowed
-          w
-          z
-          (eqb-true x (entryOf w) (and-left opening (quorum′ and enough) k))
-          (leb-true _ _ (and-left quorum′ enough l))
-          (leb-true _ _ (and-right quorum′ enough l)))
-          (λ (k : (few and may w) ≡ true). few-allowed w some z (leb-true _ _ (and-left few (may w) k)) (and-right few (may w) k))
-          (or-cases (opening and quorum′ and enough) (few and may w) (and-right value (opening and quorum′ and enough or few and may w) a))
+      (inr (chosen-divided (q - min d q) (min d q) k (overlap-pos n some) few, m))
 
 -- there is always such an x
 module _ (L : Limits) (n : ℕ) (h : Store) (may : ℕ → Bool) (r : ℕ) where

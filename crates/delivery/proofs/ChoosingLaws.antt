@@ -7,6 +7,7 @@ use mathlib.Core.Logic.{_⊎_, inl, inr, ⊎-elim}
 use mathlib.Core.List.{List, [], _∷_, List·Memᴰ, List·Memᴰ·head, List·Memᴰ·tail, List·Memᴰ·cases-cons, List·Memᴰ·not-nil}
 use lib.ListN.{length}
 use Rattle.delivery.specs.Counting.{plus, countIn, countOf, everyOf, someOf}
+use Rattle.delivery.proofs.CountLaws.{plus-mono}
 use Rattle.delivery.proofs.TestLaws.{and-left, and-right, and-in, or-cases, or-left, or-right}
 
 -- a choice of different numbers of 1 to n: each is skipped or picked
@@ -47,11 +48,6 @@ unfolding plus
 plus-one true l n x y h = omega arith
 plus-one false l n x y h = omega arith
 
-plus-le : (b : Bool) (x y : ℕ) → x ≤ y → plus b x ≤ plus b y
-unfolding plus
-plus-le true x y h = omega arith
-plus-le false x y h = omega arith
-
 plus-up : (b : Bool) (x y : ℕ) → x ≤ y → x ≤ plus b y
 unfolding plus
 plus-up true x y h = omega arith
@@ -70,7 +66,8 @@ pub choice-within : {n : ℕ} {ks : List ℕ} (p : ℕ → Bool) → Choice n ks
 unfolding countIn countOf
 choice-within p none = omega arith
 choice-within p (skip {n = n} {ks = ks} c) = plus-up (p (suc n)) (countOf p ks) (countIn n p) (choice-within p c)
-choice-within p (pick {n = n} {ks = ks} c) = plus-le (p (suc n)) (countOf p ks) (countIn n p) (choice-within p c)
+choice-within p (pick {n = n} {ks = ks} c) =
+    plus-mono (p (suc n)) (p (suc n)) (countOf p ks) (countIn n p) (λ e. e) (choice-within p c)
 
 -- all of a list pass: each member does
 pub every-member : (p : ℕ → Bool) (ks : List ℕ) → everyOf p ks ≡ true → (k : ℕ) → List·Memᴰ k ks → p k ≡ true

@@ -16,7 +16,7 @@ count-cong (suc n) p p′ h =
     ap₂ plus (h (suc n) (omega arith) (omega arith)) (count-cong n p p′ (λ k l u. h k l (omega arith)))
 
 -- a test that passes where another does counts as many or more
-plus-mono : (a b : Bool) (x y : ℕ) → (a ≡ true → b ≡ true) → x ≤ y → plus a x ≤ plus b y
+pub plus-mono : (a b : Bool) (x y : ℕ) → (a ≡ true → b ≡ true) → x ≤ y → plus a x ≤ plus b y
 unfolding plus
 plus-mono true true x y f h = omega arith
 plus-mono true false x y f h = absurd (true≢false (sym (f refl)))
@@ -46,14 +46,6 @@ pub count-le : (n : ℕ) (p : ℕ → Bool) → countIn n p ≤ n
 unfolding countIn
 count-le zero p = omega arith
 count-le (suc n) p = plus-le (p (suc n)) (countIn n p) n (count-le n p)
-
--- none passes: the count is 0
-pub count-none : (n : ℕ) (p : ℕ → Bool) → ((k : ℕ) → 1 ≤ k → k ≤ n → p k ≡ false) → countIn n p ≡ 0
-unfolding countIn plus
-count-none zero p h = refl
-count-none (suc n) p h =
-    ap (λ (b : Bool). plus b (countIn n p)) (h (suc n) (omega arith) (omega arith))
-    ∙ count-none n p (λ k l u. h k l (omega arith))
 
 -- a count of one or more has one that passes
 pub find : (n : ℕ) (p : ℕ → Bool) → 1 ≤ countIn n p → (k : ℕ) × (1 ≤ k) × (k ≤ n) × (p k ≡ true)

@@ -2,10 +2,9 @@
 use Prim.Native.Nat.{ℕ}
 use mathlib.Core.Path.{_≡_, refl, ap, sym, subst⁻¹, _∙_}
 use mathlib.Core.List.{List}
-use mathlib.Core.Bool.{Bool, true, false}
+use mathlib.Core.Bool.{true, false}
 use mathlib.Core.Logic.{_⊎_, inl, inr, ⊎-elim}
 use native.Mathlib.Omega.{arith}
-use native.Mathlib.Decide.{ℕ-discrete}
 use borrow.Author.Tests.{eqb-true, eq-eqb, ne-eqb}
 use lib.Dec.{eqb}
 use lib.ListN.{length, length-replicate}
@@ -14,16 +13,7 @@ use Rattle.signer.specs.Log.{isIdentifier, entryOf, emptyLog, entryAt, withEntr
 use Rattle.signer.specs.declared.log.Log.{Log}
 use Rattle.signer.proofs.ChoiceLaws.{if-elim, if-true, if-false}
 use Rattle.signer.proofs.FromOneLaws.{nth-none, setNth-none, length-setNth, nth-set-same, nth-replicate, within-high, within-low, within-out, nth-change}
-use Rattle.signer.proofs.LogLaws.{
-  Whole as WholeLog,
-  empty-whole,
-  with-whole,
-  entry-empty,
-  entry-same,
-  entry-other,
-  entry-outside,
-  with-outside,
-}
+use Rattle.signer.proofs.LogLaws.{Whole as WholeLog, empty-whole, with-whole, entry-empty, entry-same, entry-outside, entry-change}
 use Rattle.delivery.specs.Limits.{Limits}
 use Rattle.delivery.specs.Bus.{isBoard}
 use Rattle.delivery.specs.Delivered.{nothingDelivered, logOf, heard, deliver}
@@ -67,19 +57,6 @@ pub heard-outside : (L : Limits) (d : Delivered) (s i : ℕ) → Whole L d → i
     → heard L d s i ≡ 0
 unfolding heard
 heard-outside L d s i w h = entry-outside (L .identifiers) (logOf L d s) i (w .each s) h
-
--- with one entry changed, each is as it was, or is the new one at its place
-entry-change : (l : Log) (i e j : ℕ)
-    → (entryAt (withEntry l i e) j ≡ entryAt l j) ⊎ ((j ≡ i) × (entryAt (withEntry l i e) j ≡ e))
-entry-change l i e j = go (ℕ-discrete j i) (isIdentifier (length (l .entries)) i) refl
-  where
-    go : Dec (j ≡ i) → (b : Bool) → isIdentifier (length (l .entries)) i ≡ b
-        → (entryAt (withEntry l i e) j ≡ entryAt l j) ⊎ ((j ≡ i) × (entryAt (withEntry l i e) j ≡ e))
-    go (no p) b h = inl (entry-other l i e j p)
-    go (yes p) true h =
-        inr (p, ap (entryAt (withEntry l i e)) p ∙ entry-same (length (l .entries)) l i e (record { whole = refl }) h)
-    go (yes p) false h =
-        inl (ap (λ (m : Log). entryAt m j) (with-outside (length (l .entries)) l i e (record { whole = refl }) h))
 
 -- with entry e stored under (s, i), whether there is one or not
 abbrev pub stored : Limits → Delivered → ℕ → ℕ → ℕ → Delivered

@@ -1,9 +1,7 @@
 -- Who is owed a copy after a signature and after a delivery, board by board. Assumes nothing.
 use Prim.Native.Nat.{ℕ, _≤_}
-use native.Mathlib.Decide.{decLe}
-use native.Mathlib.Omega.{arith}
-use mathlib.Core.Path.{_≡_, sym, _∙_}
-use mathlib.Core.Bool.{Bool, true, false, true≢false}
+use mathlib.Core.Path.{_≡_}
+use mathlib.Core.Bool.{true, false}
 use mathlib.Core.Logic.{_⊎_, inl, inr, ⊎-elim}
 use borrow.Author.Tests.{ne-eqb, eqb-false}
 use lib.Dec.{eqb}
@@ -11,11 +9,11 @@ use Rattle.signer.specs.Log.{isIdentifier}
 use Rattle.delivery.specs.Tests.{_and_, _or_, neg}
 use Rattle.delivery.specs.Limits.{Limits}
 use Rattle.delivery.specs.Bus.{isBoard}
-use Rattle.delivery.specs.Sets.{inSet, setOf, bits}
+use Rattle.delivery.specs.Sets.{inSet, bits}
 use Rattle.delivery.specs.Owed.{receivers, lacks, afterSigning, afterDelivery}
 use Rattle.delivery.specs.declared.owed.Owed.{Owed}
 use Rattle.delivery.proofs.TestLaws.{and-left, and-right, and-in, or-cases, or-left, or-right, neg-true, neg-in}
-use Rattle.delivery.proofs.SetLaws.{in-setOf-within, in-setOf-outside}
+use Rattle.delivery.proofs.SetLaws.{in-setOf-within, in-setOf-passes}
 use Rattle.delivery.proofs.OwedLaws.{Complete, signing-here, delivery-here}
 
 -- a board lacks a statement: it is sound, is not the speaker, and has not delivered it
@@ -46,15 +44,6 @@ reads-lacks sound have s k l =
     (neg (inSet have k))
     (neg-in (eqb k s) (ne-eqb k s (l .other)))
     (neg-in (inSet have k) (l .has-not)))
-
--- a member of a set is one of its numbers, and passes
-member : (n : ℕ) (p : ℕ → Bool) (k : ℕ) → inSet (setOf n p) k ≡ true → p k ≡ true
-member n p k t = go (decLe 1 k) (decLe k n)
-  where
-    go : Dec (1 ≤ k) → Dec (k ≤ n) → p k ≡ true
-    go (yes l) (yes h) = sym (in-setOf-within n p k l h) ∙ t
-    go (yes l) (no h) = absurd (true≢false (sym t ∙ in-setOf-outside n p k (λ _. omega arith)))
-    go (no l) h = absurd (true≢false (sym t ∙ in-setOf-outside n p k (λ g. absurd (l g))))
 
 -- owed before, or lacking
 either : (m sound have s k : ℕ) → (inSet m k or lacks sound have s k) ≡ true → (inSet m k ≡ true) ⊎ Lacks sound have s k
@@ -87,7 +76,7 @@ module _ (L : Limits) (o : Owed) (s i sound have : ℕ) (w : Complete L o) (b : 
       have
       s
       k
-      (member
+      (in-setOf-passes
       bits
       (λ (j : ℕ). inSet (receivers L o s i) j or lacks sound have s j)
       k
@@ -112,7 +101,7 @@ module _ (L : Limits) (o : Owed) (s i sound have : ℕ) (w : Complete L o) (b : 
         → (k ≡ j → ⊥) × ((inSet (receivers L o s i) k ≡ true) ⊎ Lacks sound have s k)
     delivery-only k t =
         let p =
-        member
+        in-setOf-passes
         bits
         (λ (m : ℕ). neg (eqb m j) and (inSet (receivers L o s i) m or lacks sound have s m))
         k

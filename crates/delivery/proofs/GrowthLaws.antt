@@ -19,7 +19,8 @@ use Rattle.delivery.specs.declared.delivered.Delivered.{Delivered}
 use Rattle.delivery.proofs.CountLaws.{count-mono}
 use Rattle.delivery.proofs.DeliveredLaws.{deliver-keeps}
 use Rattle.delivery.proofs.ChoosingLaws.{count-alike}
-use Rattle.delivery.proofs.OneRoundLaws.{Opens, opens-reads, reads-opens, Counts, counts-reads, reads-counts, some-reads, reads-some, Divided, Carries, after-reads, reads-after}
+use Rattle.delivery.proofs.OneRoundLaws.{Opens, Counts, Divided, Carries, after-reads, reads-after}
+use Rattle.delivery.proofs.AllRoundsLaws.{opening-reads, reads-opening, ballot-reads, reads-ballot, accepted-reads, reads-accepted}
 use Rattle.delivery.proofs.AgreementLaws.{Won}
 
 -- what stands in h stands in h′ too
@@ -102,43 +103,30 @@ module _ (L : Limits) (n : ℕ) (h h′ : Store) (g : Grows h h′) where
       after-grows L n h h′ (allowed L n h (suc r)) (allowed L n h′ (suc r)) (suc r) g (allowed-grows (suc r)) w a
 
   pub opening-grows : (r w : ℕ) → acceptsOpening L n h r w ≡ true → acceptsOpening L n h′ r w ≡ true
-  unfolding acceptsOpening
   opening-grows r w o =
-      reads-opens
+      reads-opening
       L
       n
       h′
-      (allowed L n h′ r)
       r
       w
-      (opens-grows L n h h′ (allowed L n h r) (allowed L n h′ r) r g (allowed-grows r) w (opens-reads L n h (allowed L n h r) r w o))
+      (opens-grows L n h h′ (allowed L n h r) (allowed L n h′ r) r g (allowed-grows r) w (opening-reads L n h r w o))
 
   pub ballot-grows : (r s w : ℕ) → acceptsBallot L n h r s w ≡ true → acceptsBallot L n h′ r s w ≡ true
-  unfolding acceptsBallot
   ballot-grows r s w b =
-      reads-counts
+      reads-ballot
       L
       n
       h′
-      (allowed L n h′ r)
       r
-      w
       s
-      (counts-grows L n h h′ (allowed L n h r) (allowed L n h′ r) r g (allowed-grows r) w s (counts-reads L n h (allowed L n h r) r w s b))
+      w
+      (counts-grows L n h h′ (allowed L n h r) (allowed L n h′ r) r g (allowed-grows r) w s (ballot-reads L n h r s w b))
 
   pub some-grows : (r s : ℕ) → acceptsSome L n h r s ≡ true → acceptsSome L n h′ r s ≡ true
-  unfolding acceptsSome
   some-grows r s b =
-      let x = some-reads L n h (allowed L n h r) r s b in
-      reads-some
-      L
-      n
-      h′
-      (allowed L n h′ r)
-      r
-      (x .0)
-      s
-      (counts-grows L n h h′ (allowed L n h r) (allowed L n h′ r) r g (allowed-grows r) (x .0) s (x .1))
+      let x = accepted-reads L n h r s b in
+      reads-accepted L n h′ r s (x .0) (ballot-grows r s (x .0) (x .1))
 
   -- so what is won stays won
   pub won-grows : (r v : ℕ) → Won L n h r v → Won L n h′ r v

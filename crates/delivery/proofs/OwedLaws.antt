@@ -1,6 +1,6 @@
 -- Laws of the copies that are owed. Assumes nothing.
 use Prim.Native.Nat.{ℕ}
-use mathlib.Core.Path.{_≡_, refl, ap, sym, _∙_}
+use mathlib.Core.Path.{_≡_, ap, sym, _∙_}
 use mathlib.Core.List.{List}
 use mathlib.Core.Bool.{Bool, true, false}
 use mathlib.Core.Logic.{_⊎_, ⊎-elim}
@@ -28,6 +28,7 @@ use Rattle.delivery.specs.Owed.{
 }
 use Rattle.delivery.specs.declared.owed.Copies.{Copies}
 use Rattle.delivery.specs.declared.owed.Owed.{Owed}
+use Rattle.delivery.proofs.TestLaws.{and-assoc, and-comm}
 use Rattle.delivery.proofs.SetLaws.{set-cong, in-setOf-within, in-without}
 
 -- there is a set for each board as the speaker and each identifier
@@ -177,18 +178,6 @@ module _ (L : Limits) (o : Owed) (j s i sound have : ℕ) where
   delivery-outside = with-outside L o s i _
 
 -- the sets in these definitions, made of sets
-and-assoc : (a b c : Bool) → ((a and b) and c) ≡ (a and b and c)
-unfolding _and_
-and-assoc true b c = refl
-and-assoc false b c = refl
-
-and-comm : (a b : Bool) → (a and b) ≡ (b and a)
-unfolding _and_
-and-comm true true = refl
-and-comm true false = refl
-and-comm false true = refl
-and-comm false false = refl
-
 pub lacking-set : (s sound have : ℕ) → minus (withoutBoard sound s) have ≡ setOf bits (lacks sound have s)
 unfolding minus lacks
 lacking-set s sound have =

@@ -1,7 +1,7 @@
 -- Laws of sets of boards: their members, their sizes, and the bit operations that make them. Assumes nothing.
 use Prim.Native.Nat.{ℕ, zero, suc, _+_, _-_, _*_, _/_, _%_, _^_, _≤_, _<_, min}
 use mathlib.Core.Path.{_≡_, refl, sym, ap, ap₂, _∙_}
-use mathlib.Core.Bool.{Bool, true, false}
+use mathlib.Core.Bool.{Bool, true, false, true≢false}
 use mathlib.Core.Logic.{_⊎_, inl, inr, ⊎-elim}
 use native.Mathlib.Omega.{arith}
 use native.Mathlib.Decide.{decLe}
@@ -45,6 +45,7 @@ use Rattle.signer.proofs.ChoiceLaws.{if-true, if-false}
 use Rattle.delivery.specs.Tests.{_and_, _or_, neg}
 use Rattle.delivery.specs.Counting.{plus, countIn}
 use Rattle.delivery.specs.Sets.{inSet, setOf, bits, withBoard, withoutBoard, union, minus}
+use Rattle.delivery.proofs.TestLaws.{or-no-right}
 use Rattle.delivery.proofs.CountLaws.{count-cong, count-beyond}
 
 -- a number is one of 1 to n, or none of them
@@ -111,7 +112,7 @@ set-cong (suc n) p p′ h =
     (set-cong n p p′ (λ k l u. h k l (omega arith)))
 
 -- a number's members of 1 to n make its n low bits, so a number of n bits is the set of its members
-pub set-mod : (n m : ℕ) → setOf n (inSet m) ≡ m % 2 ^ n
+set-mod : (n m : ℕ) → setOf n (inSet m) ≡ m % 2 ^ n
 unfolding setOf inSet
 set-mod zero m = sym (mod-one m)
 set-mod (suc n) m =
@@ -133,7 +134,7 @@ digit-low n m j h =
     ∙ ap (λ (x : ℕ). x % 2) (field m (n - suc j + 1) j)
     ∙ mod-mod-pow (m / 2 ^ j) (n - suc j) 1
 
-pub in-mod : (n m k : ℕ) → k ≤ n → inSet (m % 2 ^ n) k ≡ inSet m k
+in-mod : (n m k : ℕ) → k ≤ n → inSet (m % 2 ^ n) k ≡ inSet m k
 unfolding inSet
 in-mod n m zero h = refl
 in-mod n m (suc k) h = ap (λ (x : ℕ). eqb x 1) (digit-low n m k h)
@@ -173,13 +174,20 @@ unfolding inSet
 in-setOf-outside n p zero h = refl
 in-setOf-outside n p (suc k) h = in-beyond n (setOf n p) (suc k) (set-lt n p) (h (omega arith))
 
+pub in-setOf-passes : (n : ℕ) (p : ℕ → Bool) (k : ℕ) → inSet (setOf n p) k ≡ true → p k ≡ true
+in-setOf-passes n p k t =
+    ⊎-elim
+    (λ w. sym (in-setOf-within n p k (w .0) (w .1)) ∙ t)
+    (λ w. absurd (true≢false (sym t ∙ in-setOf-outside n p k w)))
+    (place n k)
+
 -- no board is in 0, and board j + 1 alone is in 2 ^ j
 pub in-none : (k : ℕ) → inSet 0 k ≡ false
 unfolding inSet
 in-none zero = refl
 in-none (suc k) = ap (λ (x : ℕ). eqb (x % 2) 1) (zero-div (2 ^ k))
 
-pub in-one : (j k : ℕ) → inSet (2 ^ j) k ≡ eqb k (suc j)
+in-one : (j k : ℕ) → inSet (2 ^ j) k ≡ eqb k (suc j)
 unfolding setOf
 in-one j k =
     ap (λ (m : ℕ). inSet m k) alone
@@ -225,7 +233,7 @@ xor-digits (suc zero) (suc zero) h l = refl
 xor-digits (suc zero) (suc (suc y)) h l = absurd (omega arith)
 xor-digits (suc (suc x)) y h l = absurd (omega arith)
 
-pub in-or : (a b k : ℕ) → inSet (bitOr a b) k ≡ (inSet a k or inSet b k)
+in-or : (a b k : ℕ) → inSet (bitOr a b) k ≡ (inSet a k or inSet b k)
 unfolding inSet _or_
 in-or a b zero = refl
 in-or a b (suc k) =
@@ -233,7 +241,7 @@ in-or a b (suc k) =
     ∙ ap (λ (x : ℕ). eqb x 1) (or-mod (a / 2 ^ k) (b / 2 ^ k) 1)
     ∙ or-digits (a / 2 ^ k % 2) (b / 2 ^ k % 2) (odd-lt (a / 2 ^ k)) (odd-lt (b / 2 ^ k))
 
-pub in-and : (a b k : ℕ) → inSet (bitAnd a b) k ≡ (inSet a k and inSet b k)
+in-and : (a b k : ℕ) → inSet (bitAnd a b) k ≡ (inSet a k and inSet b k)
 unfolding inSet _and_
 in-and a b zero = refl
 in-and a b (suc k) =
@@ -241,7 +249,7 @@ in-and a b (suc k) =
     ∙ ap (λ (x : ℕ). eqb x 1) (and-mod (a / 2 ^ k) (b / 2 ^ k) 1)
     ∙ and-digits (a / 2 ^ k % 2) (b / 2 ^ k % 2) (odd-lt (a / 2 ^ k)) (odd-lt (b / 2 ^ k))
 
-pub in-xor : (a b k : ℕ) → inSet (bitXor a b) k ≡ (inSet a k and neg (inSet b k) or neg (inSet a k) and inSet b k)
+in-xor : (a b k : ℕ) → inSet (bitXor a b) k ≡ (inSet a k and neg (inSet b k) or neg (inSet a k) and inSet b k)
 unfolding inSet _and_ _or_ neg
 in-xor a b zero = refl
 in-xor a b (suc k) =
@@ -303,33 +311,17 @@ pub in-with : (m j k : ℕ) → 1 ≤ k → k ≤ bits → inSet (withBoard m j)
 unfolding withBoard
 in-with m j k l h = in-setOf-within bits (λ (i : ℕ). inSet m i or eqb i j) k l h
 
-pub in-with-outside : (m j k : ℕ) → (1 ≤ k → bits < k) → inSet (withBoard m j) k ≡ false
-unfolding withBoard
-in-with-outside m j k h = in-setOf-outside bits (λ (i : ℕ). inSet m i or eqb i j) k h
-
 pub in-without : (m j k : ℕ) → 1 ≤ k → k ≤ bits → inSet (withoutBoard m j) k ≡ (inSet m k and neg (eqb k j))
 unfolding withoutBoard
 in-without m j k l h = in-setOf-within bits (λ (i : ℕ). inSet m i and neg (eqb i j)) k l h
-
-pub in-without-outside : (m j k : ℕ) → (1 ≤ k → bits < k) → inSet (withoutBoard m j) k ≡ false
-unfolding withoutBoard
-in-without-outside m j k h = in-setOf-outside bits (λ (i : ℕ). inSet m i and neg (eqb i j)) k h
 
 pub in-union : (a b k : ℕ) → 1 ≤ k → k ≤ bits → inSet (union a b) k ≡ (inSet a k or inSet b k)
 unfolding union
 in-union a b k l h = in-setOf-within bits (λ (i : ℕ). inSet a i or inSet b i) k l h
 
-pub in-union-outside : (a b k : ℕ) → (1 ≤ k → bits < k) → inSet (union a b) k ≡ false
-unfolding union
-in-union-outside a b k h = in-setOf-outside bits (λ (i : ℕ). inSet a i or inSet b i) k h
-
 pub in-minus : (a b k : ℕ) → 1 ≤ k → k ≤ bits → inSet (minus a b) k ≡ (inSet a k and neg (inSet b k))
 unfolding minus
 in-minus a b k l h = in-setOf-within bits (λ (i : ℕ). inSet a i and neg (inSet b i)) k l h
-
-pub in-minus-outside : (a b k : ℕ) → (1 ≤ k → bits < k) → inSet (minus a b) k ≡ false
-unfolding minus
-in-minus-outside a b k h = in-setOf-outside bits (λ (i : ℕ). inSet a i and neg (inSet b i)) k h
 
 -- the bit operations that make these sets
 pub shift-one : (k : ℕ) → k < bits → 1 * 2 ^ k % 2 ^ bits ≡ 2 ^ k
@@ -349,11 +341,6 @@ or-with m k l h =
     (or-lt bits m (2 ^ k) l (pow-lt h))
     (λ j s t. in-or m (2 ^ k) j ∙ ap (λ (b : Bool). inSet m j or b) (in-one k j))
 
-or-false : (a b : Bool) → b ≡ false → a ≡ (a or b)
-unfolding _or_
-or-false true b h = refl
-or-false false b h = sym h
-
 pub with-none : (m k : ℕ) → m < 2 ^ bits → (1 ≤ k → bits < k) → withBoard m k ≡ m
 unfolding withBoard
 with-none m k l h =
@@ -363,7 +350,7 @@ with-none m k l h =
     m
     (λ (i : ℕ). inSet m i or eqb i k)
     l
-    (λ j s t. or-false (inSet m j) (eqb j k) (ne-eqb j k (λ e. omega (arith, h (omega arith))))))
+    (λ j s t. sym (or-no-right (inSet m j) (eqb j k) (ne-eqb j k (λ e. omega (arith, h (omega arith)))))))
 
 less : (a b : Bool) → (a and neg (a and b) or neg a and a and b) ≡ (a and neg b)
 unfolding _and_ _or_ neg

@@ -29,6 +29,18 @@ unfolding _and_
 and-no-right true b h = h
 and-no-right false b h = refl
 
+pub and-assoc : (a b c : Bool) → ((a and b) and c) ≡ (a and b and c)
+unfolding _and_
+and-assoc true b c = refl
+and-assoc false b c = refl
+
+pub and-comm : (a b : Bool) → (a and b) ≡ (b and a)
+unfolding _and_
+and-comm true true = refl
+and-comm true false = refl
+and-comm false true = refl
+and-comm false false = refl
+
 pub or-cases : (a b : Bool) → (a or b) ≡ true → (a ≡ true) ⊎ (b ≡ true)
 unfolding _or_
 or-cases true b h = inl refl
@@ -48,6 +60,11 @@ or-right false b h = h
 pub or-no : (a b : Bool) → a ≡ false → b ≡ false → (a or b) ≡ false
 unfolding _or_
 or-no a b p q = rw p q
+
+pub or-no-right : (a b : Bool) → b ≡ false → (a or b) ≡ a
+unfolding _or_
+or-no-right true b h = refl
+or-no-right false b h = h
 
 pub neg-true : (a : Bool) → neg a ≡ true → a ≡ false
 unfolding neg

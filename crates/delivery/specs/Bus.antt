@@ -10,7 +10,7 @@ abbrev pub isBoard : Limits → ℕ → Bool
 isBoard L k = isWithin (L .boards) k
 
 -- Of n boards (and of 0, which no bus has, all three are 0, since 0 - 1 is 0):
--- f, the faulty boards that the vote can bear and still end
+-- f, the most boards that are fewer than half
 abbrev pub faults : ℕ → ℕ
 faults n = (n - 1) / 2
 
@@ -18,6 +18,6 @@ faults n = (n - 1) / 2
 abbrev pub quorum : ℕ → ℕ
 quorum n = n - faults n
 
--- e, the boards that any two quorums share
+-- e, the boards that any two quorums share at least
 abbrev pub overlap : ℕ → ℕ
 overlap n = n - 2 * faults n

@@ -7,7 +7,7 @@ use mathlib.Core.Bool.{false}
 use lib.Dec.{eqb}
 use Rattle.signer.specs.FromOne.{isWithin}
 use Rattle.signer.specs.Choice.{if_then_else_}
-use Rattle.signer.specs.Log.{entryOf}
+use Rattle.signer.specs.Log.{identifiers, entryOf}
 use Rattle.delivery.specs.Tests.{neg}
 use Rattle.delivery.specs.Limits.{limits}
 use Rattle.delivery.specs.Bus.{faults, quorum, overlap}
@@ -17,11 +17,11 @@ use Rattle.delivery.specs.Acceptance.{allowed, acceptsBallot}
 use Rattle.delivery.specs.declared.delivered.Delivered.{Delivered}
 use Rattle.delivery.specs.declared.round.Phase.the-variants.{Opening, Ballot}
 
--- letter a: f, q and e of 1, 2, 3, 4 and 7 boards
+-- letter a: f, q and e of 1, 2, 3 and 4 boards, and of as many as there can be
 abbrev pub Sizes : ℕ → ℕ → ℕ → ℕ → Type 0
 Sizes n f q e = (faults n ≡ f) × (quorum n ≡ q) × (overlap n ≡ e)
 
-pub letter-a : (Sizes 1 0 1 1) × (Sizes 2 0 2 2) × (Sizes 3 1 2 1) × (Sizes 4 1 3 2) × (Sizes 7 3 4 1)
+pub letter-a : (Sizes 1 0 1 1) × (Sizes 2 0 2 2) × (Sizes 3 1 2 1) × (Sizes 4 1 3 2) × (Sizes (limits .boards) 3 4 1)
 letter-a = (
   (refl, refl, refl),
   (refl, refl, refl),
@@ -35,8 +35,8 @@ pub letter-b : (coordinator 3 1 ≡ 1) × (coordinator 3 2 ≡ 2) × (coordinato
 unfolding coordinator
 letter-b = (refl, refl, refl, refl)
 
--- letter c: the identifiers of round 32
-pub letter-c : (identifierOf limits Opening 32 ≡ 63) × (identifierOf limits Ballot 32 ≡ 64)
+-- letter c: the identifiers of the last round; its ballot's is the highest that there is
+pub letter-c : (identifierOf limits Opening (limits .rounds) ≡ 63) × (identifierOf limits Ballot (limits .rounds) ≡ identifiers)
 unfolding identifierOf phaseOf isWithin if_then_else_
 letter-c = (refl, refl)
 

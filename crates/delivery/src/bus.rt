@@ -1,7 +1,7 @@
 ghost use mathlib.Core.Path.{_≡_};
 ghost use Rattle.delivery.specs.Bus.{faults, quorum, overlap};
 
-// f: how many of n boards may be faulty while the vote still ends.
+// f: the most boards that are fewer than half of n.
 pub fn faults(n: u8) -> u8
     ensures { λ r. ⌜ r ≡ faults n ⌝ }
 {
@@ -18,7 +18,7 @@ pub fn quorum(n: u8) -> u8
     n - faults(n)
 }
 
-// e: how many boards any two quorums share.
+// e: how many boards any two quorums share at least.
 pub fn overlap(n: u8) -> u8
     ensures { λ r. ⌜ r ≡ overlap n ⌝ }
 {

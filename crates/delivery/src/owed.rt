@@ -24,7 +24,7 @@ fn lacking(speaker: u8, sound: u16, have: u16) -> u16
 }
 
 impl Copies {
-    pub fn none() -> Copies
+    fn none() -> Copies
         ensures { λ r. ⌜ r ≡ noCopies limits ⌝ }
     {
         Copies {
@@ -33,7 +33,7 @@ impl Copies {
     }
 
     // The set under an identifier; nobody under a number that is none.
-    pub fn receivers(self, id: Identifier) -> u16
+    fn receivers(self, id: Identifier) -> u16
         ensures { λ r. ⌜ r ≡ receiversAt self (id .0) ⌝ }
     {
         let i = id.0;
@@ -45,7 +45,7 @@ impl Copies {
     }
 
     // With this set under an identifier; unchanged where the number is none.
-    pub fn with_receivers(self, id: Identifier, set: u16) -> Copies
+    fn with_receivers(self, id: Identifier, set: u16) -> Copies
         ensures { λ r. ⌜ r ≡ withReceiversAt self (id .0) set ⌝ }
     {
         let i = id.0;
