@@ -4,9 +4,12 @@ use mathlib.Core.Path.{_≡_, refl, sym, ap, ap₂, _∙_}
 use mathlib.Core.Bool.{Bool, true, false, true≢false}
 use native.Mathlib.Omega.{arith}
 use native.Mathlib.Decide.{decLe}
+use borrow.Author.Tests.{eqb-true, eq-eqb}
+use lib.Dec.{eqb}
 use Rattle.delivery.specs.Tests.{_and_}
-use Rattle.delivery.specs.Counting.{plus, countIn}
+use Rattle.delivery.specs.Counting.{plus, countIn, everyIn}
 use Rattle.delivery.specs.Bus.{quorum, overlap}
+use Rattle.delivery.proofs.TestLaws.{and-left, and-right, and-in, same-test}
 
 -- tests that agree count the same
 pub count-cong : (n : ℕ) (p p′ : ℕ → Bool) → ((k : ℕ) → 1 ≤ k → k ≤ n → p k ≡ p′ k) → countIn n p ≡ countIn n p′
@@ -47,6 +50,51 @@ unfolding countIn
 count-le zero p = omega arith
 count-le (suc n) p = plus-le (p (suc n)) (countIn n p) n (count-le n p)
 
+-- all pass exactly if the count is n
+pub every-reads : (n : ℕ) (p : ℕ → Bool) → everyIn n p ≡ true → (k : ℕ) → 1 ≤ k → k ≤ n → p k ≡ true
+unfolding everyIn
+every-reads zero p h k l u = absurd (omega arith)
+every-reads (suc n) p h k l u = go (decLe k n) (every-reads n p (and-right (p (suc n)) (everyIn n p) h) k l)
+  where
+    go : Dec (k ≤ n) → (k ≤ n → p k ≡ true) → p k ≡ true
+    go (yes g) ih = ih g
+    go (no g) ih = let e : suc n ≡ k = omega arith in sym (ap p e) ∙ and-left (p (suc n)) (everyIn n p) h
+
+pub reads-every : (n : ℕ) (p : ℕ → Bool) → ((k : ℕ) → 1 ≤ k → k ≤ n → p k ≡ true) → everyIn n p ≡ true
+unfolding everyIn
+reads-every zero p h = refl
+reads-every (suc n) p h =
+    and-in (p (suc n)) (everyIn n p) (h (suc n) (omega arith) (omega arith)) (reads-every n p (λ k l u. h k l (omega arith)))
+
+count-every : (n : ℕ) (p : ℕ → Bool) → everyIn n p ≡ true → countIn n p ≡ n
+unfolding countIn plus
+count-every zero p h = refl
+count-every (suc n) p h =
+    ap₂
+    plus
+    (every-reads (suc n) p h (suc n) (omega arith) (omega arith))
+    (count-every n p (reads-every n p (λ k l u. every-reads (suc n) p h k l (omega arith))))
+
+full : (a : Bool) (x n : ℕ) → x ≤ n → plus a x ≡ suc n → (a ≡ true) × (x ≡ n)
+unfolding plus
+full true x n l h = (refl, omega arith)
+full false x n l h = absurd (omega arith)
+
+every-count : (n : ℕ) (p : ℕ → Bool) → countIn n p ≡ n → everyIn n p ≡ true
+unfolding everyIn countIn
+every-count zero p h = refl
+every-count (suc n) p h =
+    let f : (p (suc n) ≡ true) × (countIn n p ≡ n) = full (p (suc n)) (countIn n p) n (count-le n p) h in
+    and-in (p (suc n)) (everyIn n p) (f .0) (every-count n p (f .1))
+
+pub every-counted : (n : ℕ) (p : ℕ → Bool) → everyIn n p ≡ eqb (countIn n p) n
+every-counted n p =
+    same-test
+    (everyIn n p)
+    (eqb (countIn n p) n)
+    (λ e. eq-eqb (countIn n p) n (count-every n p e))
+    (λ e. every-count n p (eqb-true (countIn n p) n e))
+
 -- a count of one or more has one that passes
 pub find : (n : ℕ) (p : ℕ → Bool) → 1 ≤ countIn n p → (k : ℕ) × (1 ≤ k) × (k ≤ n) × (p k ≡ true)
 unfolding countIn plus
@@ -58,6 +106,16 @@ find (suc n) p h = go (p (suc n)) refl h (λ h′. find n p h′)
         → (k : ℕ) × (1 ≤ k) × (k ≤ suc n) × (p k ≡ true)
     go true e h rest = (suc n, omega arith, omega arith, e)
     go false e h rest = let r = rest h in (r .0, r .1, omega (arith, r .2), r .3)
+
+pub count-some : (n : ℕ) (p : ℕ → Bool) (k : ℕ) → 1 ≤ k → k ≤ n → p k ≡ true → 1 ≤ countIn n p
+unfolding countIn plus
+count-some zero p k l h t = absurd (omega arith)
+count-some (suc n) p k l h t = go (decLe k n) (p (suc n)) refl (λ g. count-some n p k l g t)
+  where
+    go : Dec (k ≤ n) → (b : Bool) → p (suc n) ≡ b → (k ≤ n → 1 ≤ countIn n p) → 1 ≤ plus b (countIn n p)
+    go d true e rest = omega arith
+    go (yes g) false e rest = rest g
+    go (no g) false e rest = let i : k ≡ suc n = omega arith in absurd (true≢false (sym t ∙ ap p i ∙ e))
 
 -- what two tests count beyond all of them, some pass both
 plus-shared : (a b : Bool) (n x y z : ℕ) → x + y ≤ n + z → plus a x + plus b y ≤ suc n + plus (a and b) z

@@ -1,14 +1,16 @@
 -- Laws of rounds, their coordinators and their identifiers. Assumes nothing.
-use Prim.Native.Nat.{ℕ, _-_, _*_, _≤_}
+use Prim.Native.Nat.{ℕ, suc, _-_, _*_, _≤_, _<_}
 use mathlib.Core.Path.{_≡_, refl, sym, _∙_}
 use mathlib.Core.Bool.{true, false}
 use native.Mathlib.Omega.{arith}
 use native.Mathlib.Nat.{mod-lt}
+use borrow.Author.Tests.{lt-ltb, le-ltb}
+use lib.Dec.{ltb}
 use Rattle.signer.proofs.ChoiceLaws.{if-true, if-false}
 use Rattle.signer.specs.Log.{isIdentifier}
 use Rattle.signer.proofs.FromOneLaws.{within-low, within-high, within-in}
 use Rattle.delivery.specs.Limits.{Limits}
-use Rattle.delivery.specs.Rounds.{isRound, coordinator, phaseOf, identifierOf}
+use Rattle.delivery.specs.Rounds.{isRound, nextRound, coordinator, phaseOf, identifierOf}
 use Rattle.delivery.specs.declared.round.Phase.{Phase}
 use Rattle.delivery.specs.declared.round.Phase.the-variants.{Opening, Ballot}
 
@@ -57,3 +59,26 @@ pub identifier-within : (L : Limits) (p : Phase) (r : ℕ)
 identifier-within L p r w h =
     let b : (1 ≤ phaseOf p r) × (phaseOf p r ≤ 2 * r) = phase-within p r (within-low (L .rounds) r h) in
     rw (identifier-at L p r h) (within-in (L .identifiers) (phaseOf p r) (b .0) (omega (arith, within-high (L .rounds) r h)))
+
+-- identifiers rise: the opening of a round, its ballot, the opening of the next
+phase-rises : (r : ℕ) → 1 ≤ r → (phaseOf Opening r < phaseOf Ballot r) × (phaseOf Ballot r < phaseOf Opening (suc r))
+unfolding phaseOf
+phase-rises r l = (omega arith, omega arith)
+
+pub opening-ballot : (L : Limits) (r : ℕ) → isRound L r ≡ true → identifierOf L Opening r < identifierOf L Ballot r
+opening-ballot L r h =
+    rw (identifier-at L Opening r h, identifier-at L Ballot r h) (phase-rises r (within-low (L .rounds) r h) .0)
+
+pub ballot-opening : (L : Limits) (r : ℕ)
+    → isRound L r ≡ true → isRound L (suc r) ≡ true → identifierOf L Ballot r < identifierOf L Opening (suc r)
+ballot-opening L r h h′ =
+    rw (identifier-at L Ballot r h, identifier-at L Opening (suc r) h′) (phase-rises r (within-low (L .rounds) r h) .1)
+
+-- the next round, and that of the last
+pub next-at : (L : Limits) (r : ℕ) → r < L .rounds → nextRound L r ≡ suc r
+unfolding nextRound
+next-at L r l = if-true (ltb r (L .rounds)) (suc r) r (lt-ltb r (L .rounds) l)
+
+pub next-stays : (L : Limits) (r : ℕ) → L .rounds ≤ r → nextRound L r ≡ r
+unfolding nextRound
+next-stays L r l = if-false (ltb r (L .rounds)) (suc r) r (le-ltb r (L .rounds) l)

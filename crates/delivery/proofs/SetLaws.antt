@@ -45,7 +45,7 @@ use Rattle.signer.proofs.ChoiceLaws.{if-true, if-false}
 use Rattle.delivery.specs.Tests.{_and_, _or_, neg}
 use Rattle.delivery.specs.Counting.{plus, countIn}
 use Rattle.delivery.specs.Sets.{inSet, setOf, bits, withBoard, withoutBoard, union, minus}
-use Rattle.delivery.proofs.TestLaws.{or-no-right}
+use Rattle.delivery.proofs.TestLaws.{or-no-right, or-no, and-twice, or-twice}
 use Rattle.delivery.proofs.CountLaws.{count-cong, count-beyond}
 
 -- a number is one of 1 to n, or none of them
@@ -319,9 +319,39 @@ pub in-union : (a b k : ℕ) → 1 ≤ k → k ≤ bits → inSet (union a b) k 
 unfolding union
 in-union a b k l h = in-setOf-within bits (λ (i : ℕ). inSet a i or inSet b i) k l h
 
+pub in-either : (a b k : ℕ) → a < 2 ^ bits → b < 2 ^ bits → 1 ≤ k → inSet (union a b) k ≡ (inSet a k or inSet b k)
+unfolding union
+in-either a b k x y l = go (decLe k bits)
+  where
+    go : Dec (k ≤ bits) → inSet (union a b) k ≡ (inSet a k or inSet b k)
+    go (yes h) = in-union a b k l h
+    go (no h) =
+        let g : bits < k = omega arith in
+        in-setOf-outside bits (λ (i : ℕ). inSet a i or inSet b i) k (λ z. g)
+        ∙ sym (or-no (inSet a k) (inSet b k) (in-beyond bits a k x g) (in-beyond bits b k y g))
+
 pub in-minus : (a b k : ℕ) → 1 ≤ k → k ≤ bits → inSet (minus a b) k ≡ (inSet a k and neg (inSet b k))
 unfolding minus
 in-minus a b k l h = in-setOf-within bits (λ (i : ℕ). inSet a i and neg (inSet b i)) k l h
+
+-- a board put in or taken out a second time changes nothing
+pub with-twice : (m k : ℕ) → withBoard (withBoard m k) k ≡ withBoard m k
+unfolding withBoard
+with-twice m k =
+    set-cong
+    bits
+    (λ (j : ℕ). inSet (withBoard m k) j or eqb j k)
+    (λ (j : ℕ). inSet m j or eqb j k)
+    (λ j l h. ap (λ (b : Bool). b or eqb j k) (in-with m k j l h) ∙ or-twice (inSet m j) (eqb j k))
+
+pub without-twice : (m k : ℕ) → withoutBoard (withoutBoard m k) k ≡ withoutBoard m k
+unfolding withoutBoard
+without-twice m k =
+    set-cong
+    bits
+    (λ (j : ℕ). inSet (withoutBoard m k) j and neg (eqb j k))
+    (λ (j : ℕ). inSet m j and neg (eqb j k))
+    (λ j l h. ap (λ (b : Bool). b and neg (eqb j k)) (in-without m k j l h) ∙ and-twice (inSet m j) (neg (eqb j k)))
 
 -- the bit operations that make these sets
 pub shift-one : (k : ℕ) → k < bits → 1 * 2 ^ k % 2 ^ bits ≡ 2 ^ k

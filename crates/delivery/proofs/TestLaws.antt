@@ -20,6 +20,10 @@ unfolding _and_
 and-in true b p q = q
 and-in false b p q = p
 
+pub and-yes-left : (a b : Bool) → a ≡ true → (a and b) ≡ b
+unfolding _and_
+and-yes-left a b h = rw h
+
 pub and-no-left : (a b : Bool) → a ≡ false → (a and b) ≡ false
 unfolding _and_
 and-no-left a b h = rw h
@@ -40,6 +44,18 @@ and-comm true true = refl
 and-comm true false = refl
 and-comm false true = refl
 and-comm false false = refl
+
+pub and-twice : (a b : Bool) → ((a and b) and b) ≡ (a and b)
+unfolding _and_
+and-twice true true = refl
+and-twice true false = refl
+and-twice false b = refl
+
+pub or-twice : (a b : Bool) → ((a or b) or b) ≡ (a or b)
+unfolding _or_
+or-twice true b = refl
+or-twice false true = refl
+or-twice false false = refl
 
 pub or-cases : (a b : Bool) → (a or b) ≡ true → (a ≡ true) ⊎ (b ≡ true)
 unfolding _or_
@@ -70,6 +86,10 @@ pub neg-true : (a : Bool) → neg a ≡ true → a ≡ false
 unfolding neg
 neg-true true h = absurd (true≢false (sym h))
 neg-true false h = refl
+
+pub neg-no : (a : Bool) → a ≡ true → neg a ≡ false
+unfolding neg
+neg-no a h = rw h
 
 pub neg-in : (a : Bool) → a ≡ false → neg a ≡ true
 unfolding neg

@@ -14,6 +14,11 @@ unfoldable pub countIn : ℕ → (ℕ → Bool) → ℕ
 countIn zero p = 0
 countIn (suc n) p = plus (p (suc n)) (countIn n p)
 
+-- all of 1 to n pass
+unfoldable pub everyIn : ℕ → (ℕ → Bool) → Bool
+everyIn zero p = true
+everyIn (suc n) p = p (suc n) and everyIn n p
+
 -- how many of a list pass
 unfoldable pub countOf : (ℕ → Bool) → List ℕ → ℕ
 countOf p [] = 0

@@ -1,6 +1,7 @@
 -- Document 01, "Words and sizes": rounds, their coordinators, and the identifiers of their statements.
-use Prim.Native.Nat.{ℕ, _+_, _-_, _*_, _%_}
+use Prim.Native.Nat.{ℕ, suc, _+_, _-_, _*_, _%_}
 use mathlib.Core.Bool.{Bool}
+use lib.Dec.{ltb}
 use Rattle.signer.specs.FromOne.{isWithin}
 use Rattle.signer.specs.Choice.{if_then_else_}
 use Rattle.delivery.specs.Limits.{Limits}
@@ -10,6 +11,10 @@ use Rattle.delivery.specs.declared.round.Phase.the-variants.{Opening, Ba
 -- rounds are the numbers from 1 to the last
 abbrev pub isRound : Limits → ℕ → Bool
 isRound L r = isWithin (L .rounds) r
+
+-- the round after r; the last one has none, and stays
+unfoldable pub nextRound : Limits → ℕ → ℕ
+nextRound L r = if ltb r (L .rounds) then suc r else r
 
 -- the coordinator of round r among n boards: 1, 2, .. n, and again from 1 (a number modulo 0 is the number)
 unfoldable pub coordinator : ℕ → ℕ → ℕ

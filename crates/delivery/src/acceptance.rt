@@ -105,7 +105,7 @@ impl Delivered {
     }
 
     // The entry of the opening that the round's coordinator sent.
-    fn opening(self, n: u8, round: Round) -> u32
+    pub fn opening(self, n: u8, round: Round) -> u32
         ensures { λ r. ⌜ r ≡ heard limits self (coordinator n (round .0)) (identifierOf limits Phase.Opening (round .0)) ⌝ }
     {
         self.entry(round.coordinator(n), round.identifier(Phase::Opening))

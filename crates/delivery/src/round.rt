@@ -1,6 +1,6 @@
 ghost use mathlib.Core.Path.{_≡_};
 ghost use Rattle.delivery.specs.Limits.{limits};
-ghost use Rattle.delivery.specs.Rounds.{isRound, identifierOf, coordinator};
+ghost use Rattle.delivery.specs.Rounds.{isRound, nextRound, identifierOf, coordinator};
 use signer::Identifier;
 use signer::from_one;
 
@@ -22,6 +22,17 @@ impl Round {
         ensures { λ r. ⌜ r ≡ isRound limits (self .0) ⌝ }
     {
         from_one::within(self.0, Round::LAST)
+    }
+
+    // The round after this one; the last has none, and stays.
+    pub fn next(self) -> Round
+        ensures { λ r. ⌜ r .0 ≡ nextRound limits (self .0) ⌝ }
+    {
+        let r = self.0;
+        if r < Round::LAST {
+            return Round(r + 1);
+        }
+        Round(r)
     }
 
     // The identifier under which this round's opening or ballot is signed; 0, which is none, where

@@ -1,15 +1,56 @@
 -- Laws of logs. Assumes nothing.
-use Prim.Native.Nat.{ℕ, _-_, _≤_, _<_}
-use mathlib.Core.Path.{_≡_, ap, subst⁻¹, _∙_}
+use Prim.Native.Nat.{ℕ, zero, suc, _-_, _≤_, _<_}
+use mathlib.Core.Path.{_≡_, refl, sym, ap, subst⁻¹, _∙_}
 use mathlib.Core.List.{List}
 use mathlib.Core.Logic.{_⊎_}
-use mathlib.Core.Bool.{true, false}
+use mathlib.Core.Bool.{Bool, true, false}
 use native.Mathlib.Omega.{arith}
 use native.Mathlib.Decide.{ℕ-discrete}
+use borrow.Author.Tests.{le-leb, lt-leb, leb-true, leb-false}
+use lib.Dec.{leb}
 use lib.ListN.{length, getD, set, length-replicate}
-use Rattle.signer.specs.Log.{isIdentifier, emptyLog, entryAt, withEntry}
+use Rattle.signer.specs.Log.{values, valueOf, entryOf, isIdentifier, emptyLog, entryAt, withEntry}
 use Rattle.signer.specs.declared.log.Log.{Log}
+use Rattle.signer.proofs.ChoiceLaws.{if-true, if-false, if-elim}
 use Rattle.signer.proofs.FromOneLaws.{within-low, within-high, within-out, nth-index, setNth-index, nth-none, setNth-none, length-setNth, nth-set-same, nth-set-other, nth-replicate, nth-change}
+
+-- an entry's value, where it stands for one, and where it stands for none
+pub value-entry : (v : ℕ) → v ≤ values → valueOf (entryOf v) ≡ v
+unfolding valueOf
+value-entry v h = if-true (leb v values) v 0 (le-leb v values h)
+
+pub value-index : (x : ℕ) → 1 ≤ x → x - 1 ≤ values → valueOf x ≡ x - 1
+value-index zero l h = absurd (omega arith)
+value-index (suc v) l h = value-entry v (omega arith) ∙ omega arith
+
+pub value-none : valueOf 0 ≡ 0
+unfolding valueOf
+value-none = refl
+
+pub value-beyond : (x : ℕ) → values < x - 1 → valueOf x ≡ 0
+unfolding valueOf
+value-beyond zero h = refl
+value-beyond (suc v) h = if-false (leb v values) v 0 (lt-leb v values (omega arith))
+
+-- it is a value or the blank, and an entry with a value is that value's
+pub value-within : (x : ℕ) → valueOf x ≤ values
+unfolding valueOf
+value-within zero = omega arith
+value-within (suc v) =
+    if-elim (λ (w : ℕ). w ≤ values) (leb v values) v 0 (λ e. leb-true v values e) (λ e. omega arith)
+
+pub entry-value : (x : ℕ) → (valueOf x ≡ 0 → ⊥) → x ≡ entryOf (valueOf x)
+unfolding valueOf
+entry-value zero f = absurd (f refl)
+entry-value (suc v) f =
+    if-elim
+    (λ (w : ℕ). (w ≡ 0 → ⊥) → suc v ≡ entryOf w)
+    (leb v values)
+    v
+    0
+    (λ e z. refl)
+    (λ e z. absurd (z refl))
+    f
 
 -- a log that has an entry for each identifier
 pub record Whole (limit : ℕ) (l : Log) : Type 0 where

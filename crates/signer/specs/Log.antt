@@ -1,8 +1,10 @@
 -- Document 01, "Words and sizes": identifiers, values, and what one speaker said under each identifier.
 -- A definition that depends on how many identifiers there are takes that number as `limit`.
-use Prim.Native.Nat.{ℕ, suc}
+use Prim.Native.Nat.{ℕ, zero, suc}
 use mathlib.Core.Bool.{Bool}
+use lib.Dec.{leb}
 use lib.ListN.{replicate}
+use Rattle.signer.specs.Choice.{if_then_else_}
 use Rattle.signer.specs.FromOne.{isWithin, nth, setNth}
 use Rattle.signer.specs.declared.log.Log.{Log}
 
@@ -18,6 +20,15 @@ isIdentifier limit i = isWithin limit i
 -- entry of its own, and entry 0 is left to say that there is no statement
 abbrev pub entryOf : ℕ → ℕ
 entryOf v = suc v
+
+-- the highest value; the lowest is 1, and 0 is the blank
+abbrev pub values : ℕ
+values = 65535
+
+-- the value that an entry stands for; the blank where it stands for none
+unfoldable pub valueOf : ℕ → ℕ
+valueOf zero = 0
+valueOf (suc v) = if leb v values then v else 0
 
 -- a speaker that has said nothing
 unfoldable pub emptyLog : ℕ → Log

@@ -1,5 +1,5 @@
 ghost use mathlib.Core.Path.{_≡_};
-ghost use Rattle.signer.specs.Log.{identifiers, entryOf, emptyLog, entryAt, withEntry};
+ghost use Rattle.signer.specs.Log.{identifiers, entryOf, valueOf, emptyLog, entryAt, withEntry};
 use crate::identifier::Identifier;
 
 // What one speaker said under each identifier. Entry 0: nothing; entry v + 1: the value v.
@@ -8,6 +8,9 @@ pub struct Log {
 }
 
 impl Log {
+    // The highest value; the lowest is 1, and 0 is the blank.
+    pub const VALUES: u16 = 65535;
+
     pub fn empty() -> Log
         ensures { λ r. ⌜ r ≡ emptyLog identifiers ⌝ }
     {
@@ -21,6 +24,19 @@ impl Log {
         ensures { λ r. ⌜ r ≡ entryOf value ⌝ }
     {
         value as u32 + 1
+    }
+
+    // The value that an entry stands for; the blank where it stands for none.
+    pub fn value_of(entry: u32) -> u16
+        ensures { λ r. ⌜ r ≡ valueOf entry ⌝ }
+    {
+        if entry == 0 {
+            return 0;
+        }
+        if entry - 1 > Log::VALUES as u32 {
+            return 0;
+        }
+        (entry - 1) as u16
     }
 
     // The entry under an identifier; nothing stands under a number that is none.

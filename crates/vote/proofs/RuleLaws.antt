@@ -1,0 +1,161 @@
+-- Laws of the rule of a turn: what it says at each stage, and what is known of a board that makes a move. Assumes
+-- nothing.
+use Prim.Native.Nat.{ℕ, _≤_, _<_}
+use native.Mathlib.Omega.{arith}
+use native.Mathlib.Decide.{ℕ-discrete, decLt}
+use borrow.Author.Tests.{eq-eqb, ne-eqb, le-leb, lt-leb, leb-true, lt-ltb, le-ltb}
+use mathlib.Core.Path.{_≡_, refl, sym, ap, subst, _∙_}
+use mathlib.Core.Bool.{Bool, true, false}
+use mathlib.Core.Logic.{_⊎_, inl, inr, ⊎-elim}
+use lib.Dec.{eqb, leb, ltb}
+use Rattle.signer.specs.Choice.{if_then_else_}
+use Rattle.signer.proofs.ChoiceLaws.{if-true, if-false}
+use Rattle.delivery.specs.Tests.{_and_, _or_, neg}
+use Rattle.delivery.specs.Counting.{countIn, everyIn}
+use Rattle.delivery.specs.Limits.{Limits}
+use Rattle.delivery.specs.Bus.{quorum, overlap}
+use Rattle.delivery.specs.Rounds.{coordinator}
+use Rattle.delivery.specs.Sets.{inSet}
+use Rattle.delivery.specs.Delivered.{Store}
+use Rattle.delivery.specs.Acceptance.{acceptsOpening, acceptsSome}
+use Rattle.delivery.proofs.TestLaws.{and-left, and-right, and-in, and-no-left, and-yes-left, neg-no, or-cases, or-left, or-right, or-no, decided}
+use Rattle.delivery.proofs.CountLaws.{every-reads, reads-every}
+use Rattle.delivery.proofs.OneRoundLaws.{value-some}
+use Rattle.delivery.proofs.AgreementLaws.{Won}
+use Rattle.vote.specs.Ballots.{sentOpening, openedValue, valueWith}
+use Rattle.vote.specs.Rule.{openMove, voteMove, mayCount, chosen, carried, nextEstimate, onward, countMove, moveAt, rule}
+use Rattle.vote.specs.declared.position.Position.{Position}
+use Rattle.vote.specs.declared.position.Stage.{Stage}
+use Rattle.vote.specs.declared.position.Stage.the-variants.{Open, Vote, Count}
+use Rattle.vote.specs.declared.rule.Move.{Move}
+use Rattle.vote.specs.declared.rule.Move.the-variants.{Waits, Passes, Opens, Ballots, Decides, Advances, Expires}
+use Rattle.vote.proofs.BallotLaws.{Backed, with-reads, backed-opened, backed-won}
+
+-- stage A
+module _ (n me : ℕ) (p : Position) where
+  pub open-coordinator : me ≡ coordinator n (p .round .0) → openMove n me p ≡ Opens (p .estimate)
+  unfolding openMove
+  open-coordinator e =
+      if-true (eqb me (coordinator n (p .round .0))) (Opens (p .estimate)) Passes (eq-eqb me (coordinator n (p .round .0)) e)
+
+  pub open-other : (me ≡ coordinator n (p .round .0) → ⊥) → openMove n me p ≡ Passes
+  unfolding openMove
+  open-other f =
+      if-false (eqb me (coordinator n (p .round .0))) (Opens (p .estimate)) Passes (ne-eqb me (coordinator n (p .round .0)) f)
+
+module _ (L : Limits) (n : ℕ) (p : Position) (h : Store) where
+  abbrev r : ℕ
+  r = p .round .0
+
+  abbrev sent : Bool
+  sent = neg (eqb (sentOpening L n h r) 0)
+
+  abbrev doubted : Bool
+  doubted = inSet (p .suspected) (coordinator n r)
+
+  -- stage B
+  pub vote-sent : (sentOpening L n h r ≡ 0 → ⊥) → voteMove L n p h ≡ Ballots (openedValue L n h r)
+  unfolding voteMove
+  vote-sent z =
+      if-true (sent or doubted) (Ballots (openedValue L n h r)) Waits (or-left sent doubted (value-some (sentOpening L n h r) z))
+
+  pub vote-suspected : inSet (p .suspected) (coordinator n r) ≡ true → voteMove L n p h ≡ Ballots (openedValue L n h r)
+  unfolding voteMove
+  vote-suspected s = if-true (sent or doubted) (Ballots (openedValue L n h r)) Waits (or-right sent doubted s)
+
+  pub vote-waits : sentOpening L n h r ≡ 0 → inSet (p .suspected) (coordinator n r) ≡ false → voteMove L n p h ≡ Waits
+  unfolding voteMove
+  vote-waits z s =
+      if-false (sent or doubted) (Ballots (openedValue L n h r)) Waits (or-no sent doubted (neg-no (eqb (sentOpening L n h r) 0) (eq-eqb (sentOpening L n h r) 0 z)) s)
+
+  -- stage C
+  abbrev present : ℕ → Bool
+  present s = acceptsSome L n h r s or inSet (p .suspected) s
+
+  pub count-few : countIn n (acceptsSome L n h r) < quorum n → mayCount L n p h ≡ false
+  unfolding mayCount
+  count-few l =
+      and-no-left (leb (quorum n) (countIn n (acceptsSome L n h r))) (everyIn n present) (lt-leb (quorum n) (countIn n (acceptsSome L n h r)) l)
+
+  pub count-enough : quorum n ≤ countIn n (acceptsSome L n h r) → mayCount L n p h ≡ everyIn n (λ (s : ℕ). acceptsSome L n h r s or inSet (p .suspected) s)
+  unfolding mayCount
+  count-enough l =
+      and-yes-left (leb (quorum n) (countIn n (acceptsSome L n h r))) (everyIn n present) (le-leb (quorum n) (countIn n (acceptsSome L n h r)) l)
+
+  pub record MayCount : Type 0 where
+    pub enough : quorum n ≤ countIn n (acceptsSome L n h r)
+    pub rest : (s : ℕ) → 1 ≤ s → s ≤ n → (acceptsSome L n h r s ≡ true) ⊎ (inSet (p .suspected) s ≡ true)
+
+  pub count-reads : mayCount L n p h ≡ true → MayCount
+  unfolding mayCount
+  count-reads t =
+      let a = leb (quorum n) (countIn n (acceptsSome L n h r)) in
+      record {
+        enough = leb-true (quorum n) (countIn n (acceptsSome L n h r)) (and-left a (everyIn n present) t);
+        rest =
+            λ s l u.
+            or-cases (acceptsSome L n h r s) (inSet (p .suspected) s) (every-reads n present (and-right a (everyIn n present) t) s l u);
+      }
+
+  pub reads-count : MayCount → mayCount L n p h ≡ true
+  reads-count m =
+      count-enough (m .enough)
+      ∙ reads-every
+      n
+      present
+      (λ s l u.
+      ⊎-elim
+      (λ (a : acceptsSome L n h r s ≡ true). or-left (acceptsSome L n h r s) (inSet (p .suspected) s) a)
+      (λ (a : inSet (p .suspected) s ≡ true). or-right (acceptsSome L n h r s) (inSet (p .suspected) s) a)
+      (m .rest s l u))
+
+  pub estimate-kept : carried L n p h ≡ 0 → nextEstimate L n p h ≡ p .estimate
+  unfolding nextEstimate
+  estimate-kept z = if-true (eqb (carried L n p h) 0) (p .estimate) (carried L n p h) (eq-eqb (carried L n p h) 0 z)
+
+  pub estimate-taken : (carried L n p h ≡ 0 → ⊥) → nextEstimate L n p h ≡ carried L n p h
+  unfolding nextEstimate
+  estimate-taken z = if-false (eqb (carried L n p h) 0) (p .estimate) (carried L n p h) (ne-eqb (carried L n p h) 0 z)
+
+  pub onward-advances : r < L .rounds → onward L n p h ≡ Advances (nextEstimate L n p h)
+  unfolding onward
+  onward-advances l =
+      if-true (ltb r (L .rounds)) (Advances (nextEstimate L n p h)) (Expires (nextEstimate L n p h)) (lt-ltb r (L .rounds) l)
+
+  pub onward-expires : L .rounds ≤ r → onward L n p h ≡ Expires (nextEstimate L n p h)
+  unfolding onward
+  onward-expires l =
+      if-false (ltb r (L .rounds)) (Advances (nextEstimate L n p h)) (Expires (nextEstimate L n p h)) (le-ltb r (L .rounds) l)
+
+  abbrev outcome : Move
+  outcome = if eqb (chosen L n p h) 0 then onward L n p h else Decides (chosen L n p h)
+
+  pub count-waits : mayCount L n p h ≡ false → countMove L n p h ≡ Waits
+  unfolding countMove
+  count-waits f = if-false (mayCount L n p h) outcome Waits f
+
+  pub count-onward : mayCount L n p h ≡ true → chosen L n p h ≡ 0 → countMove L n p h ≡ onward L n p h
+  unfolding countMove
+  count-onward t z =
+      if-true (mayCount L n p h) outcome Waits t
+      ∙ if-true (eqb (chosen L n p h) 0) (onward L n p h) (Decides (chosen L n p h)) (eq-eqb (chosen L n p h) 0 z)
+
+  pub count-decides : mayCount L n p h ≡ true → (chosen L n p h ≡ 0 → ⊥) → countMove L n p h ≡ Decides (chosen L n p h)
+  unfolding countMove
+  count-decides t z =
+      if-true (mayCount L n p h) outcome Waits t
+      ∙ if-false (eqb (chosen L n p h) 0) (onward L n p h) (Decides (chosen L n p h)) (ne-eqb (chosen L n p h) 0 z)
+
+module _ (L : Limits) (n me : ℕ) (p : Position) (h : Store) where
+  -- the move at each stage
+  pub rule-open : p .stage ≡ Open → rule L n me p h ≡ openMove n me p
+  unfolding rule moveAt
+  rule-open e = ap (moveAt L n me p h) e
+
+  pub rule-vote : p .stage ≡ Vote → rule L n me p h ≡ voteMove L n p h
+  unfolding rule moveAt
+  rule-vote e = ap (moveAt L n me p h) e
+
+  pub rule-count : p .stage ≡ Count → rule L n me p h ≡ countMove L n p h
+  unfolding rule moveAt
+  rule-count e = ap (moveAt L n me p h) e

@@ -1,0 +1,108 @@
+ghost use mathlib.Core.Path.{_≡_};
+ghost use Rattle.delivery.specs.Limits.{limits};
+ghost use Rattle.delivery.specs.Delivered.{heard};
+ghost use Rattle.vote.specs.Rule.{openMove, voteMove, mayCount, nextEstimate, onward, countMove, rule};
+use crate::ballots;
+use crate::position::Position;
+use crate::position::Stage;
+use delivery::Delivered;
+use delivery::Round;
+use delivery::bus;
+use delivery::set;
+
+// What a board does in a turn.
+pub enum Move {
+    Waits,
+    Passes,
+    Opens(u16),
+    Ballots(u16),
+    Decides(u16),
+    Advances(u16),
+    Expires(u16),
+}
+
+impl Position {
+    // Stage A.
+    fn open_move(self, n: u8, me: u8) -> Move
+        ensures { λ r. ⌜ r ≡ openMove n me self ⌝ }
+    {
+        if me == self.round.coordinator(n) {
+            return Move::Opens(self.estimate);
+        }
+        Move::Passes
+    }
+
+    // Stage B.
+    fn vote_move(self, n: u8, delivered: Delivered) -> Move
+        ensures { λ r. ⌜ r ≡ voteMove limits n self (heard limits delivered) ⌝ }
+    {
+        let round = self.round;
+        if delivered.opening(n, round) != 0 {
+            return Move::Ballots(ballots::opened_value(delivered, n, round));
+        }
+        if set::has(self.suspected, round.coordinator(n)) {
+            return Move::Ballots(ballots::opened_value(delivered, n, round));
+        }
+        Move::Waits
+    }
+
+    // Whether the board may count: a quorum has ballots, and every board without one is suspected.
+    fn may_count(self, n: u8, delivered: Delivered) -> bool
+        ensures { λ r. ⌜ r ≡ mayCount limits n self (heard limits delivered) ⌝ }
+    {
+        let ballots = delivered.ballots(n, self.round);
+        if set::count(ballots, n) < bus::quorum(n) {
+            return false;
+        }
+        set::count(set::union(ballots, self.suspected), n) == n
+    }
+
+    // The estimate that the round leaves the board with.
+    fn next_estimate(self, n: u8, delivered: Delivered) -> u16
+        ensures { λ r. ⌜ r ≡ nextEstimate limits n self (heard limits delivered) ⌝ }
+    {
+        let carried = ballots::value_with(delivered, n, self.round, bus::overlap(n));
+        if carried == 0 {
+            return self.estimate;
+        }
+        carried
+    }
+
+    // The end of a round in which the board decides nothing.
+    fn onward(self, n: u8, delivered: Delivered) -> Move
+        ensures { λ r. ⌜ r ≡ onward limits n self (heard limits delivered) ⌝ }
+    {
+        let round = self.round;
+        let estimate = self.next_estimate(n, delivered);
+        if round.0 < Round::LAST {
+            return Move::Advances(estimate);
+        }
+        Move::Expires(estimate)
+    }
+
+    // Stage C.
+    fn count_move(self, n: u8, delivered: Delivered) -> Move
+        ensures { λ r. ⌜ r ≡ countMove limits n self (heard limits delivered) ⌝ }
+    {
+        if !self.may_count(n, delivered) {
+            return Move::Waits;
+        }
+        let chosen = ballots::value_with(delivered, n, self.round, bus::quorum(n));
+        if chosen == 0 {
+            return self.onward(n, delivered);
+        }
+        Move::Decides(chosen)
+    }
+
+    // What the board does in its turn.
+    pub fn rule(self, n: u8, me: u8, delivered: Delivered) -> Move
+        ensures { λ r. ⌜ r ≡ rule limits n me self (heard limits delivered) ⌝ }
+    {
+        let stage = self.stage;
+        match stage {
+            Stage::Open => self.open_move(n, me),
+            Stage::Vote => self.vote_move(n, delivered),
+            Stage::Count => self.count_move(n, delivered),
+        }
+    }
+}
