@@ -1,3 +1,4 @@
 pub mod StatusLaws
 pub mod BallotLaws
 pub mod RuleLaws
+pub mod TurnLaws

@@ -4,7 +4,7 @@ use Prim.Native.Nat.{ℕ, _≤_, _<_}
 use native.Mathlib.Omega.{arith}
 use native.Mathlib.Decide.{ℕ-discrete, decLt}
 use borrow.Author.Tests.{eq-eqb, ne-eqb, le-leb, lt-leb, leb-true, lt-ltb, le-ltb}
-use mathlib.Core.Path.{_≡_, refl, sym, ap, subst, _∙_}
+use mathlib.Core.Path.{_≡_, refl, ap, subst, subst⁻¹, _∙_}
 use mathlib.Core.Bool.{Bool, true, false}
 use mathlib.Core.Logic.{_⊎_, inl, inr, ⊎-elim}
 use lib.Dec.{eqb, leb, ltb}
@@ -159,3 +159,99 @@ module _ (L : Limits) (n me : ℕ) (p : Position) (h : Store) where
   pub rule-count : p .stage ≡ Count → rule L n me p h ≡ countMove L n p h
   unfolding rule moveAt
   rule-count e = ap (moveAt L n me p h) e
+
+-- how a round that decides nothing leaves the estimate: as it was, or a value that e or more accepted ballots bear
+pub data Next (L : Limits) (n : ℕ) (p : Position) (h : Store) (v : ℕ) : Type 0 where
+  kept : v ≡ p .estimate → carried L n p h ≡ 0 → Next L n p h v
+  taken : Backed L n h (p .round .0) (overlap n) v → Next L n p h v
+
+pub next-estimate : (L : Limits) (n : ℕ) (p : Position) (h : Store) → Next L n p h (nextEstimate L n p h)
+next-estimate L n p h = go (ℕ-discrete (carried L n p h) 0)
+  where
+    go : Dec (carried L n p h ≡ 0) → Next L n p h (nextEstimate L n p h)
+    go (yes z) = kept (estimate-kept L n p h z) z
+    go (no z) =
+        let b : Backed L n h (p .round .0) (overlap n) (carried L n p h) = with-reads L n h (p .round .0) (overlap n) z in
+        taken (rw (estimate-taken L n p h z) b)
+
+-- what is known of a board that makes a move
+pub data Acts (L : Limits) (n me : ℕ) (p : Position) (h : Store) : Move → Type 0 where
+  awaits-opening : p .stage ≡ Vote → sentOpening L n h (p .round .0) ≡ 0
+      → inSet (p .suspected) (coordinator n (p .round .0)) ≡ false → Acts L n me p h Waits
+  awaits-ballots : p .stage ≡ Count → mayCount L n p h ≡ false → Acts L n me p h Waits
+  passes : p .stage ≡ Open → (me ≡ coordinator n (p .round .0) → ⊥) → Acts L n me p h Passes
+  opens : (v : ℕ) → p .stage ≡ Open → me ≡ coordinator n (p .round .0) → v ≡ p .estimate → Acts L n me p h (Opens v)
+  ballots : (v : ℕ) → p .stage ≡ Vote → v ≡ openedValue L n h (p .round .0) → Acts L n me p h (Ballots v)
+  decides : (v : ℕ) → p .stage ≡ Count → MayCount L n p h → Won L n h (p .round .0) v → Acts L n me p h (Decides v)
+  advances : (v : ℕ) → p .stage ≡ Count → MayCount L n p h → chosen L n p h ≡ 0 → p .round .0 < L .rounds → Next L n p h v → Acts L n me p h (Advances v)
+  expires : (v : ℕ) → p .stage ≡ Count → MayCount L n p h → chosen L n p h ≡ 0 → L .rounds ≤ p .round .0 → Next L n p h v → Acts L n me p h (Expires v)
+
+module _ (L : Limits) (n me : ℕ) (p : Position) (h : Store) where
+  abbrev Act : Move → Type 0
+  Act = Acts L n me p h
+
+  open-acts : p .stage ≡ Open → Act (openMove n me p)
+  open-acts s = go (ℕ-discrete me (coordinator n (p .round .0)))
+    where
+      go : Dec (me ≡ coordinator n (p .round .0)) → Act (openMove n me p)
+      go (yes e) = subst⁻¹ Act (open-coordinator n me p e) (opens (p .estimate) s e refl)
+      go (no f) = subst⁻¹ Act (open-other n me p f) (passes s f)
+
+  vote-acts : p .stage ≡ Vote → Act (voteMove L n p h)
+  vote-acts s = go (ℕ-discrete (sentOpening L n h (p .round .0)) 0) (decided (inSet (p .suspected) (coordinator n (p .round .0))))
+    where
+      cast : Act (Ballots (openedValue L n h (p .round .0)))
+      cast = ballots (openedValue L n h (p .round .0)) s refl
+
+      go : Dec (sentOpening L n h (p .round .0) ≡ 0)
+          → (inSet (p .suspected) (coordinator n (p .round .0)) ≡ true) ⊎ (inSet (p .suspected) (coordinator n (p .round .0)) ≡ false)
+          → Act (voteMove L n p h)
+      go (no z) d = subst⁻¹ Act (vote-sent L n p h z) cast
+      go (yes z) (inl t) = subst⁻¹ Act (vote-suspected L n p h t) cast
+      go (yes z) (inr t) = subst⁻¹ Act (vote-waits L n p h z t) (awaits-opening s z t)
+
+  onward-acts : p .stage ≡ Count → MayCount L n p h → chosen L n p h ≡ 0 → Act (onward L n p h)
+  onward-acts s m z = go (decLt (p .round .0) (L .rounds))
+    where
+      go : Dec (p .round .0 < L .rounds) → Act (onward L n p h)
+      go (yes l) = subst⁻¹ Act (onward-advances L n p h l) (advances (nextEstimate L n p h) s m z l (next-estimate L n p h))
+      go (no g) =
+          let l : L .rounds ≤ p .round .0 = omega arith in
+          subst⁻¹ Act (onward-expires L n p h l) (expires (nextEstimate L n p h) s m z l (next-estimate L n p h))
+
+  count-acts : p .stage ≡ Count → Act (countMove L n p h)
+  count-acts s = go (decided (mayCount L n p h)) (ℕ-discrete (chosen L n p h) 0)
+    where
+      go : (mayCount L n p h ≡ true) ⊎ (mayCount L n p h ≡ false) → Dec (chosen L n p h ≡ 0) → Act (countMove L n p h)
+      go (inr t) d = subst⁻¹ Act (count-waits L n p h t) (awaits-ballots s t)
+      go (inl t) (yes z) = subst⁻¹ Act (count-onward L n p h t z) (onward-acts s (count-reads L n p h t) z)
+      go (inl t) (no z) =
+          subst⁻¹
+          Act
+          (count-decides L n p h t z)
+          (decides
+          (chosen L n p h)
+          s
+          (count-reads L n p h t)
+          (backed-won L n h (p .round .0) (chosen L n p h) (with-reads L n h (p .round .0) (quorum n) z)))
+
+  -- the rule's move is always one of these
+  pub rule-acts : Acts L n me p h (rule L n me p h)
+  rule-acts = go (p .stage) refl
+    where
+      go : (s : Stage) → p .stage ≡ s → Act (rule L n me p h)
+      go Open e = subst⁻¹ Act (rule-open L n me p h e) (open-acts e)
+      go Vote e = subst⁻¹ Act (rule-vote L n me p h e) (vote-acts e)
+      go Count e = subst⁻¹ Act (rule-count L n me p h e) (count-acts e)
+
+  -- a board that decides a value has q or more accepted ballots of its round with it
+  pub decides-won : (v : ℕ) → rule L n me p h ≡ Decides v → Won L n h (p .round .0) v
+  decides-won v e = go (subst Act e rule-acts)
+    where
+      go : Act (Decides v) → Won L n h (p .round .0) v
+      go (decides _ s m w) = w
+
+  -- an estimate that changes was an accepted opening's value
+  pub next-origin : (v : ℕ) → Next L n p h v → (v ≡ p .estimate) ⊎ (acceptsOpening L n h (p .round .0) v ≡ true)
+  next-origin v (kept e z) = inl e
+  next-origin v (taken b) = inr (backed-opened L n h (p .round .0) (overlap n) v b)

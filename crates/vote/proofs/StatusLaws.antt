@@ -2,6 +2,7 @@
 use mathlib.Core.Path.{_≡_, refl, sym}
 use mathlib.Core.Bool.{true, false, true≢false}
 use Rattle.vote.specs.Boards.{isStarted, isEnded}
+use Rattle.vote.specs.declared.board.Decision.{Decision}
 use Rattle.vote.specs.declared.board.Status.{Status}
 use Rattle.vote.specs.declared.board.Status.the-variants.{Idle, Voting, Spent, Decided}
 
@@ -20,3 +21,12 @@ going-voting Idle p q = absurd (true≢false (sym p))
 going-voting Voting p q = refl
 going-voting Spent p q = absurd (true≢false q)
 going-voting (Decided d) p q = absurd (true≢false q)
+
+-- which statuses have ended
+pub ended-spent : isEnded Spent ≡ true
+unfolding isEnded
+ended-spent = refl
+
+pub ended-decided : (d : Decision) → isEnded (Decided d) ≡ true
+unfolding isEnded
+ended-decided d = refl

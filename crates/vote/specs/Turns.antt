@@ -84,11 +84,11 @@ hearsOwn L d Nothing = d
 hearsOwn L d (One s) = hears L d s
 
 -- a turn that is not taken leaves the board as it was
-unfoldable pub refuse : Board → Answer → Turn
+abbrev pub refuse : Board → Answer → Turn
 refuse b a = record { board = b; answer = a; signed = Nothing }
 
 -- a voting board's turn, in which it makes the move m; what it signs it has then delivered
-unfoldable pub take : Limits → ℕ → Board → Move → Turn
+abbrev pub take : Limits → ℕ → Board → Move → Turn
 take L me b m =
     record {
       board =

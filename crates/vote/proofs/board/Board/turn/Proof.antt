@@ -1,27 +1,13 @@
 -- `Board::turn` meets its contract. Assumes nothing.
-use Prim.Native.Nat.{ℕ}
 use borrow.Author.Needs.{needs}
 use borrow.Author.Tests.{not-true, not-false}
-use mathlib.Core.Path.{_≡_, refl, sym, _∙_}
-use mathlib.Core.Bool.{true, true≢false}
-use Rattle.delivery.specs.Limits.{Limits, limits}
-use Rattle.vote.specs.Boards.{isEnded, withStatus}
-use Rattle.vote.specs.Turns.{refuse, take, turnIn, turn}
-use Rattle.vote.specs.declared.board.Board.{Board}
-use Rattle.vote.specs.declared.board.Status.{Status}
-use Rattle.vote.specs.declared.board.Status.the-variants.{Idle, Voting, Spent, Decided}
-use Rattle.vote.specs.declared.turn.Answer.the-variants.{Ended}
+use mathlib.Core.Path.{_≡_, sym, _∙_}
+use Rattle.vote.specs.Boards.{withStatus}
+use Rattle.vote.specs.declared.board.Status.the-variants.{Voting}
 use Rattle.vote.proofs.StatusLaws.{unstarted-idle, going-voting}
+use Rattle.vote.proofs.TurnLaws.{turn-idle, turn-ended, turn-voting}
 use Rattle.vote.proofs.board.Board.turn.Statement.{statement}
 use Rattle.vote.proofs.board.Board.turn.Tie as tie
-
--- a board that has ended takes no turn
-ended-turn : (L : Limits) (n me : ℕ) (b : Board) (s : Status) → isEnded s ≡ true → turnIn L n me b s ≡ refuse b Ended
-unfolding isEnded turnIn
-ended-turn L n me b Idle h = absurd (true≢false (sym h))
-ended-turn L n me b Voting h = absurd (true≢false (sym h))
-ended-turn L n me b Spent h = refl
-ended-turn L n me b (Decided d) h = refl
 
 is-started-requires : tie.Need-is-started-requires
 is-started-requires c κs = search needs
@@ -30,9 +16,9 @@ refuse-requires : tie.Need-refuse-requires
 refuse-requires c κs = search needs
 
 returns : tie.Need-returns
-unfolding turnIn turn
 returns c =
-    rw (c .refuse .ensures, unstarted-idle _ (sym (c .before .before .is-started .ensures) ∙ not-true _ (c .before .if1 .taken)))
+    c .refuse .ensures
+    ∙ sym (turn-idle _ _ _ _ (unstarted-idle _ (sym (c .before .before .is-started .ensures) ∙ not-true _ (c .before .if1 .taken))))
 
 is-ended-requires : tie.Need-is-ended-requires
 is-ended-requires c κs = search needs
@@ -41,11 +27,8 @@ refuse-requires-2 : tie.Need-refuse-requires-2
 refuse-requires-2 c κs = search needs
 
 returns-2 : tie.Need-returns-2
-unfolding turn
 returns-2 c =
-    let s = c .before .before .before .before .before in
-    c .refuse2 .ensures
-    ∙ sym (ended-turn limits (s .args .n) (s .args .me) (s .args .self) (s .args .self .status) (sym (c .before .before .is-ended .ensures) ∙ c .before .if2 .taken))
+    c .refuse2 .ensures ∙ sym (turn-ended _ _ _ _ (sym (c .before .before .is-ended .ensures) ∙ c .before .if2 .taken))
 
 rule-requires : tie.Need-rule-requires
 rule-requires c κs = search needs
@@ -77,10 +60,10 @@ voting c =
     (sym (c .before .is-ended .ensures) ∙ c .if2 .left)
 
 returns-3 : tie.Need-returns-3
-unfolding take turnIn turn withStatus
+unfolding withStatus
 returns-3 c =
     let h = c .before .before .before .before in
-    rw (c .answer .ensures, c .before .with-status .ensures, c .before .before .status .ensures, c .before .before .before .after .ensures, h .heard-by .ensures, h .before .said .ensures, h .before .before .rule .ensures, voting (h .before .before .before .before))
+    rw (c .answer .ensures, c .before .with-status .ensures, c .before .before .status .ensures, c .before .before .before .after .ensures, h .heard-by .ensures, h .before .said .ensures, h .before .before .rule .ensures) (sym (turn-voting _ _ _ _ (voting (h .before .before .before .before))))
 
 pub turn-spec : {M : Type 1} → statement M
 turn-spec =

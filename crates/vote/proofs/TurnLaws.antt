@@ -1,0 +1,191 @@
+-- Laws of a turn. Assumes nothing.
+use Prim.Native.Nat.{ℕ, suc, _≤_, _<_}
+use mathlib.Core.Path.{_≡_, refl, sym, ap, subst⁻¹, _∙_}
+use mathlib.Core.Bool.{Bool, true, false, true≢false}
+use mathlib.Core.Logic.{_⊎_, inl, inr}
+use Rattle.delivery.specs.Limits.{Limits}
+use Rattle.delivery.specs.Rounds.{coordinator, nextRound, identifierOf}
+use Rattle.delivery.specs.Delivered.{Store, heard}
+use Rattle.delivery.specs.Acceptance.{acceptsOpening}
+use Rattle.delivery.specs.declared.delivered.Delivered.{Delivered}
+use Rattle.delivery.specs.declared.round.Round.{Round}
+use Rattle.delivery.specs.declared.round.Phase.{Phase}
+use Rattle.delivery.specs.declared.round.Phase.the-variants.{Opening, Ballot}
+use Rattle.delivery.proofs.RoundLaws.{next-at}
+use Rattle.delivery.proofs.AgreementLaws.{Won}
+use Rattle.vote.specs.Ballots.{openedValue}
+use Rattle.vote.specs.Boards.{isEnded, hears}
+use Rattle.vote.specs.Rule.{chosen, rule}
+use Rattle.vote.specs.Turns.{atStage, positionAfter, statusAfter, statement, saidIn, hearsOwn, answerTo, refuse, take, turnIn, turn}
+use Rattle.vote.specs.declared.position.Stage.{Stage}
+use Rattle.vote.specs.declared.position.Stage.the-variants.{Open, Vote, Count}
+use Rattle.vote.specs.declared.rule.Move.{Move}
+use Rattle.vote.specs.declared.rule.Move.the-variants.{Waits, Passes, Opens, Ballots, Decides, Advances, Expires}
+use Rattle.vote.specs.declared.statement.Statement.{Statement}
+use Rattle.vote.specs.declared.statement.Said.the-variants.{Nothing, One}
+use Rattle.vote.specs.declared.board.Board.{Board}
+use Rattle.vote.specs.declared.board.Decision.{Decision}
+use Rattle.vote.specs.declared.board.Status.{Status}
+use Rattle.vote.specs.declared.board.Status.the-variants.{Idle, Voting, Spent, Decided}
+use Rattle.vote.specs.declared.turn.Answer.{Answer}
+use Rattle.vote.specs.declared.turn.Answer.the-variants.{Done, NotStarted, Ended, Waiting}
+use Rattle.vote.specs.declared.turn.Turn.{Turn}
+use Rattle.vote.proofs.StatusLaws.{ended-spent, ended-decided}
+use Rattle.vote.proofs.RuleLaws.{MayCount, Next, Acts, awaits-opening, awaits-ballots, passes, opens, ballots, decides, advances, expires, rule-acts, next-origin}
+
+-- a board with another round, estimate, stage, store and status; whom it suspects is the same
+abbrev pub placed : Board → Round → ℕ → Stage → Delivered → Status → Board
+placed b r e s d t =
+    record { position = record { round = r; estimate = e; stage = s; suspected = b .position .suspected }; delivered = d; status = t }
+
+-- what board `me` says in a round
+abbrev pub told : Limits → ℕ → Round → Phase → ℕ → Statement
+told L me r p v = record { speaker = me; id = record { 0 = identifierOf L p (r .0) }; value = v }
+
+-- a turn that is taken
+abbrev pub done : Board → Turn
+done b = record { board = b; answer = Done; signed = Nothing }
+
+abbrev pub spoken : Board → Statement → Turn
+spoken b s = record { board = b; answer = Done; signed = One s }
+
+-- what each move comes to
+module _ (L : Limits) (me : ℕ) (b : Board) where
+  pub take-waits : b .status ≡ Voting → take L me b Waits ≡ refuse b Waiting
+  unfolding positionAfter statusAfter saidIn hearsOwn answerTo
+  take-waits e = ap (λ (t : Status). refuse (record { position = b .position; delivered = b .delivered; status = t }) Waiting) (sym e)
+
+  pub take-passes : take L me b Passes ≡ done (placed b (b .position .round) (b .position .estimate) Vote (b .delivered) Voting)
+  unfolding positionAfter atStage statusAfter saidIn hearsOwn answerTo
+  take-passes = refl
+
+  pub take-opens : (v : ℕ) → let s = told L me (b .position .round) Opening v in
+      take L me b (Opens v) ≡ spoken (placed b (b .position .round) (b .position .estimate) Vote (hears L (b .delivered) s) Voting) s
+  unfolding positionAfter atStage statusAfter statement saidIn hearsOwn answerTo
+  take-opens v = refl
+
+  pub take-ballots : (v : ℕ) → let s = told L me (b .position .round) Ballot v in
+      take L me b (Ballots v) ≡ spoken (placed b (b .position .round) (b .position .estimate) Count (hears L (b .delivered) s) Voting) s
+  unfolding positionAfter atStage statusAfter statement saidIn hearsOwn answerTo
+  take-ballots v = refl
+
+  pub take-decides : (v : ℕ)
+      → take L me b (Decides v)
+      ≡ done (record { position = b .position; delivered = b .delivered; status = Decided (record { round = b .position .round; value = v }) })
+  unfolding positionAfter statusAfter saidIn hearsOwn answerTo
+  take-decides v = refl
+
+  pub take-advances : (v : ℕ)
+      → take L me b (Advances v) ≡ done (placed b (record { 0 = nextRound L (b .position .round .0) }) v Open (b .delivered) Voting)
+  unfolding positionAfter statusAfter saidIn hearsOwn answerTo
+  take-advances v = refl
+
+  pub take-expires : (v : ℕ)
+      → take L me b (Expires v) ≡ done (placed b (b .position .round) v (b .position .stage) (b .delivered) Spent)
+  unfolding positionAfter statusAfter saidIn hearsOwn answerTo
+  take-expires v = refl
+
+-- no other answer is `Done`
+answered : Answer → Bool
+answered Done = true
+answered NotStarted = false
+answered Ended = false
+answered Waiting = false
+
+idle-not : NotStarted ≡ Done → ⊥
+unfolding answered
+idle-not e = true≢false (sym (ap answered e))
+
+ended-not : Ended ≡ Done → ⊥
+unfolding answered
+ended-not e = true≢false (sym (ap answered e))
+
+waiting-not : Waiting ≡ Done → ⊥
+unfolding answered
+waiting-not e = true≢false (sym (ap answered e))
+
+-- whose turn is not taken: one that has not started, and one that is decided or spent
+ended-turn : (L : Limits) (n me : ℕ) (b : Board) (s : Status) → isEnded s ≡ true → turnIn L n me b s ≡ refuse b Ended
+unfolding isEnded turnIn
+ended-turn L n me b Idle h = absurd (true≢false (sym h))
+ended-turn L n me b Voting h = absurd (true≢false (sym h))
+ended-turn L n me b Spent h = refl
+ended-turn L n me b (Decided d) h = refl
+
+module _ (L : Limits) (n me : ℕ) (b : Board) where
+  pub turn-idle : b .status ≡ Idle → turn L n me b ≡ refuse b NotStarted
+  unfolding turn turnIn
+  turn-idle e = ap (turnIn L n me b) e
+
+  pub turn-ended : isEnded (b .status) ≡ true → turn L n me b ≡ refuse b Ended
+  unfolding turn
+  turn-ended e = ended-turn L n me b (b .status) e
+
+  pub turn-voting : b .status ≡ Voting → turn L n me b ≡ take L me b (rule L n me (b .position) (heard L (b .delivered)))
+  unfolding turn turnIn
+  turn-voting e = ap (turnIn L n me b) e
+
+module _ (L : Limits) (n me : ℕ) (b : Board) where
+  abbrev store : Store
+  store = heard L (b .delivered)
+
+  abbrev round : Round
+  round = b .position .round
+
+  -- What a turn comes to: it is not taken, or the board was voting and does one of these.
+  pub data Course (t : Turn) : Type 0 where
+    not-taken : (a : Answer) → (a ≡ Done → ⊥) → t ≡ refuse b a → Course t
+    passed : b .status ≡ Voting → b .position .stage ≡ Open → (me ≡ coordinator n (round .0) → ⊥)
+        → t ≡ done (placed b round (b .position .estimate) Vote (b .delivered) Voting) → Course t
+    opened : b .status ≡ Voting → b .position .stage ≡ Open → me ≡ coordinator n (round .0)
+        → t
+        ≡ spoken
+        (placed b round (b .position .estimate) Vote (hears L (b .delivered) (told L me round Opening (b .position .estimate))) Voting)
+        (told L me round Opening (b .position .estimate)) → Course t
+    balloted : b .status ≡ Voting → b .position .stage ≡ Vote
+        → t
+        ≡ spoken
+        (placed b round (b .position .estimate) Count (hears L (b .delivered) (told L me round Ballot (openedValue L n store (round .0)))) Voting)
+        (told L me round Ballot (openedValue L n store (round .0))) → Course t
+    decided : (v : ℕ) → b .status ≡ Voting → b .position .stage ≡ Count → MayCount L n (b .position) store
+        → Won L n store (round .0) v
+        → t ≡ done (record { position = b .position; delivered = b .delivered; status = Decided (record { round = round; value = v }) })
+        → Course t
+    advanced : (v : ℕ) → b .status ≡ Voting → b .position .stage ≡ Count → MayCount L n (b .position) store
+        → chosen L n (b .position) store ≡ 0 → round .0 < L .rounds → Next L n (b .position) store v
+        → t ≡ done (placed b (record { 0 = suc (round .0) }) v Open (b .delivered) Voting) → Course t
+    expired : (v : ℕ) → b .status ≡ Voting → b .position .stage ≡ Count → MayCount L n (b .position) store
+        → chosen L n (b .position) store ≡ 0 → L .rounds ≤ round .0 → Next L n (b .position) store v
+        → t ≡ done (placed b round v Count (b .delivered) Spent) → Course t
+
+  voting-course : (m : Move) → b .status ≡ Voting → Acts L n me (b .position) store m → Course (take L me b m)
+  voting-course Waits e a = not-taken Waiting waiting-not (take-waits L me b e)
+  voting-course Passes e (passes s f) = passed e s f (take-passes L me b)
+  voting-course (Opens v) e (opens _ s c i) = opened e s c (ap (λ (w : ℕ). take L me b (Opens w)) i ∙ take-opens L me b (b .position .estimate))
+  voting-course (Ballots v) e (ballots _ s i) = balloted e s (ap (λ (w : ℕ). take L me b (Ballots w)) i ∙ take-ballots L me b (openedValue L n store (round .0)))
+  voting-course (Decides v) e (decides _ s m w) = decided v e s m w (take-decides L me b v)
+  voting-course (Advances v) e (advances _ s m z l x) =
+      advanced
+      v
+      e
+      s
+      m
+      z
+      l
+      x
+      (take-advances L me b v ∙ ap (λ (k : ℕ). done (placed b (record { 0 = k }) v Open (b .delivered) Voting)) (next-at L (round .0) l))
+  voting-course (Expires v) e (expires _ s m z l x) =
+      expired v e s m z l x (take-expires L me b v ∙ ap (λ (g : Stage). done (placed b round v g (b .delivered) Spent)) s)
+
+  pub turn-course : Course (turn L n me b)
+  turn-course = go (b .status) refl
+    where
+      go : (s : Status) → b .status ≡ s → Course (turn L n me b)
+      go Idle e = not-taken NotStarted idle-not (turn-idle L n me b e)
+      go Voting e =
+          subst⁻¹
+          Course
+          (turn-voting L n me b e)
+          (voting-course (rule L n me (b .position) store) e (rule-acts L n me (b .position) store))
+      go Spent e = not-taken Ended ended-not (turn-ended L n me b (ap isEnded e ∙ ended-spent))
+      go (Decided d) e = not-taken Ended ended-not (turn-ended L n me b (ap isEnded e ∙ ended-decided d))
