@@ -209,9 +209,12 @@ module _ (L : Limits) (n : ℕ) (h : Store) (r : ℕ) where
       go (no z) = absurd (f (rw (with-opened m z) (with-reads m z)))
 
   -- what q or more bear is won
-  pub backed-won : (w : ℕ) → Backed (quorum n) w → Won L n h r w
+  pub tally-won : (w : ℕ) → (w ≡ 0 → ⊥) → quorum n ≤ tally L n h r w → Won L n h r w
   unfolding tally
-  backed-won w b = record { value = b .value; quorum-bears = b .least }
+  tally-won w z q = record { value = z; quorum-bears = q }
+
+  pub backed-won : (w : ℕ) → Backed (quorum n) w → Won L n h r w
+  backed-won w b = tally-won w (b .value) (b .least)
 
 -- a tally grows with what is delivered
 pub tally-grows : (L : Limits) (n : ℕ) (h h′ : Store) → Grows h h′ → (r w : ℕ) → tally L n h r w ≤ tally L n h′ r w

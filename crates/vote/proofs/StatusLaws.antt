@@ -1,7 +1,7 @@
 -- Laws of how far a board is. Assumes nothing.
-use mathlib.Core.Path.{_≡_, refl, sym}
+use mathlib.Core.Path.{_≡_, refl, sym, ap}
 use mathlib.Core.Bool.{true, false, true≢false}
-use Rattle.vote.specs.Boards.{isStarted, isEnded}
+use Rattle.vote.specs.Boards.{isStarted, isDecided, isEnded}
 use Rattle.vote.specs.declared.board.Decision.{Decision}
 use Rattle.vote.specs.declared.board.Status.{Status}
 use Rattle.vote.specs.declared.board.Status.the-variants.{Idle, Voting, Spent, Decided}
@@ -22,7 +22,23 @@ going-voting Voting p q = refl
 going-voting Spent p q = absurd (true≢false q)
 going-voting (Decided d) p q = absurd (true≢false q)
 
--- which statuses have ended
+-- what is known of each status
+pub idle-unstarted : isStarted Idle ≡ false
+unfolding isStarted
+idle-unstarted = refl
+
+pub started-voting : isStarted Voting ≡ true
+unfolding isStarted
+started-voting = refl
+
+pub started-spent : isStarted Spent ≡ true
+unfolding isStarted
+started-spent = refl
+
+pub started-decided : (d : Decision) → isStarted (Decided d) ≡ true
+unfolding isStarted
+started-decided d = refl
+
 pub ended-spent : isEnded Spent ≡ true
 unfolding isEnded
 ended-spent = refl
@@ -30,3 +46,43 @@ ended-spent = refl
 pub ended-decided : (d : Decision) → isEnded (Decided d) ≡ true
 unfolding isEnded
 ended-decided d = refl
+
+pub decided-decided : (d : Decision) → isDecided (Decided d) ≡ true
+unfolding isDecided
+decided-decided d = refl
+
+-- no two of them are the same
+pub voting-spent : Voting ≡ Spent → ⊥
+unfolding isEnded
+voting-spent e = true≢false (sym (ap isEnded e))
+
+pub voting-decided : (d : Decision) → Voting ≡ Decided d → ⊥
+unfolding isDecided
+voting-decided d e = true≢false (sym (ap isDecided e))
+
+pub spent-decided : (d : Decision) → Spent ≡ Decided d → ⊥
+unfolding isDecided
+spent-decided d e = true≢false (sym (ap isDecided e))
+
+pub idle-spent : Idle ≡ Spent → ⊥
+unfolding isStarted
+idle-spent e = true≢false (sym (ap isStarted e))
+
+pub idle-decided : (d : Decision) → Idle ≡ Decided d → ⊥
+unfolding isStarted
+idle-decided d e = true≢false (sym (ap isStarted e))
+
+pub idle-voting : Idle ≡ Voting → ⊥
+unfolding isStarted
+idle-voting e = true≢false (sym (ap isStarted e))
+
+-- a board decides one thing
+decision : Decision → Status → Decision
+decision d Idle = d
+decision d Voting = d
+decision d Spent = d
+decision d (Decided c) = c
+
+pub decided-one : (d c : Decision) → Decided d ≡ Decided c → d ≡ c
+unfolding decision
+decided-one d c e = ap (decision d) e

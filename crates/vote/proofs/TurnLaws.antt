@@ -22,6 +22,7 @@ use Rattle.vote.specs.declared.position.Stage.the-variants.{Open, Vote, 
 use Rattle.vote.specs.declared.rule.Move.{Move}
 use Rattle.vote.specs.declared.rule.Move.the-variants.{Waits, Passes, Opens, Ballots, Decides, Advances, Expires}
 use Rattle.vote.specs.declared.statement.Statement.{Statement}
+use Rattle.vote.specs.declared.statement.Said.{Said}
 use Rattle.vote.specs.declared.statement.Said.the-variants.{Nothing, One}
 use Rattle.vote.specs.declared.board.Board.{Board}
 use Rattle.vote.specs.declared.board.Decision.{Decision}
@@ -32,6 +33,23 @@ use Rattle.vote.specs.declared.turn.Answer.the-variants.{Done, NotStarte
 use Rattle.vote.specs.declared.turn.Turn.{Turn}
 use Rattle.vote.proofs.StatusLaws.{ended-spent, ended-decided}
 use Rattle.vote.proofs.RuleLaws.{MayCount, Next, Acts, awaits-opening, awaits-ballots, passes, opens, ballots, decides, advances, expires, rule-acts, next-origin}
+
+-- something said is not nothing, and is one statement
+speaks : Said → Bool
+speaks Nothing = false
+speaks (One s) = true
+
+pub nothing-one : (s : Statement) → Nothing ≡ One s → ⊥
+unfolding speaks
+nothing-one s e = true≢false (sym (ap speaks e))
+
+content : Statement → Said → Statement
+content x Nothing = x
+content x (One s) = s
+
+pub one-statement : (s s′ : Statement) → One s ≡ One s′ → s ≡ s′
+unfolding content
+one-statement s s′ e = ap (content s) e
 
 -- a board with another round, estimate, stage, store and status; whom it suspects is the same
 abbrev pub placed : Board → Round → ℕ → Stage → Delivered → Status → Board
@@ -189,3 +207,37 @@ module _ (L : Limits) (n me : ℕ) (b : Board) where
           (voting-course (rule L n me (b .position) store) e (rule-acts L n me (b .position) store))
       go Spent e = not-taken Ended ended-not (turn-ended L n me b (ap isEnded e ∙ ended-spent))
       go (Decided d) e = not-taken Ended ended-not (turn-ended L n me b (ap isEnded e ∙ ended-decided d))
+
+  -- a turn that is not done changes nothing and signs nothing; above all one in which the board waits
+  course-refused : (t : Turn) → Course t → (t .answer ≡ Done → ⊥) → (t .board ≡ b) × (t .signed ≡ Nothing)
+  course-refused t (not-taken a f e) x = (ap (λ (u : Turn). u .board) e, ap (λ (u : Turn). u .signed) e)
+  course-refused t (passed v g f e) x = absurd (x (ap (λ (u : Turn). u .answer) e))
+  course-refused t (opened v g c e) x = absurd (x (ap (λ (u : Turn). u .answer) e))
+  course-refused t (balloted v g e) x = absurd (x (ap (λ (u : Turn). u .answer) e))
+  course-refused t (decided w v g m o e) x = absurd (x (ap (λ (u : Turn). u .answer) e))
+  course-refused t (advanced w v g m z l k e) x = absurd (x (ap (λ (u : Turn). u .answer) e))
+  course-refused t (expired w v g m z l k e) x = absurd (x (ap (λ (u : Turn). u .answer) e))
+
+  pub turn-refused : (turn L n me b .answer ≡ Done → ⊥) → (turn L n me b .board ≡ b) × (turn L n me b .signed ≡ Nothing)
+  turn-refused = course-refused (turn L n me b) turn-course
+
+  pub turn-waits : rule L n me (b .position) store ≡ Waits → b .status ≡ Voting → turn L n me b ≡ refuse b Waiting
+  turn-waits w v = turn-voting L n me b v ∙ ap (take L me b) w ∙ take-waits L me b v
+
+  -- an estimate that changes was an accepted opening's value
+  course-estimate : (t : Turn) → Course t
+      → (t .board .position .estimate ≡ b .position .estimate)
+      ⊎ (acceptsOpening L n store (round .0) (t .board .position .estimate) ≡ true)
+  course-estimate t (not-taken a f e) = inl (ap (λ (u : Turn). u .board .position .estimate) e)
+  course-estimate t (passed v g f e) = inl (ap (λ (u : Turn). u .board .position .estimate) e)
+  course-estimate t (opened v g c e) = inl (ap (λ (u : Turn). u .board .position .estimate) e)
+  course-estimate t (balloted v g e) = inl (ap (λ (u : Turn). u .board .position .estimate) e)
+  course-estimate t (decided w v g m o e) = inl (ap (λ (u : Turn). u .board .position .estimate) e)
+  course-estimate t (advanced w v g m z l k e) =
+      rw (ap (λ (u : Turn). u .board .position .estimate) e) (next-origin L n me (b .position) store w k)
+  course-estimate t (expired w v g m z l k e) =
+      rw (ap (λ (u : Turn). u .board .position .estimate) e) (next-origin L n me (b .position) store w k)
+
+  pub turn-estimate : (turn L n me b .board .position .estimate ≡ b .position .estimate)
+      ⊎ (acceptsOpening L n (heard L (b .delivered)) (b .position .round .0) (turn L n me b .board .position .estimate) ≡ true)
+  turn-estimate = course-estimate (turn L n me b) turn-course

@@ -1,0 +1,161 @@
+-- Laws of the calls that are no turn: a proposal, a delivery, a suspicion, an announcement. Assumes nothing.
+use Prim.Native.Nat.{ℕ, _≤_}
+use borrow.Author.Tests.{eq-eqb, eqb-false, ne-eqb, leb-true, le-leb}
+use native.Mathlib.Decide.{ℕ-discrete}
+use mathlib.Core.Path.{_≡_, refl, sym, ap, _∙_}
+use mathlib.Core.Bool.{Bool, true, false}
+use mathlib.Core.Logic.{_⊎_, inl, inr}
+use lib.Dec.{eqb, leb}
+use Rattle.signer.proofs.ChoiceLaws.{if-true, if-false}
+use Rattle.delivery.specs.Tests.{_and_, _or_, neg}
+use Rattle.delivery.specs.Limits.{Limits}
+use Rattle.delivery.specs.Bus.{quorum}
+use Rattle.delivery.specs.Delivered.{heard, deliver}
+use Rattle.delivery.specs.Sets.{inSet, withBoard, withoutBoard}
+use Rattle.delivery.specs.declared.delivered.Delivered.{Delivered}
+use Rattle.delivery.proofs.TestLaws.{and-left, and-right, and-in, or-left, or-right, or-no, neg-true, neg-in, decided}
+use Rattle.delivery.proofs.DeliveredLaws.{Whole, deliver-whole}
+use Rattle.delivery.proofs.SetLaws.{with-twice, without-twice}
+use Rattle.delivery.proofs.OneRoundLaws.{some-value, value-some}
+use Rattle.delivery.proofs.AgreementLaws.{Won}
+use Rattle.delivery.proofs.GrowthLaws.{Grows, deliver-grows}
+use Rattle.vote.specs.Ballots.{tally}
+use Rattle.vote.specs.Boards.{isStarted, isDecided, withStatus, startingWith, propose, hears, deliverTo, suspecting, suspect, trust}
+use Rattle.vote.specs.Announcements.{convinced, announce}
+use Rattle.vote.specs.declared.position.Stage.the-variants.{Open}
+use Rattle.vote.specs.declared.statement.Statement.{Statement}
+use Rattle.vote.specs.declared.board.Board.{Board}
+use Rattle.vote.specs.declared.board.Status.{Status}
+use Rattle.vote.specs.declared.board.Status.the-variants.{Voting, Decided}
+use Rattle.vote.proofs.BallotLaws.{tally-won}
+use Rattle.vote.proofs.TurnLaws.{placed}
+
+-- a proposal starts a board that has not started, at round 1 with the value as its estimate; it starts once
+module _ (b : Board) (v : ℕ) where
+  abbrev begun : Board
+  begun = placed b (record { 0 = 1 }) v Open (b .delivered) Voting
+
+  pub propose-starts : isStarted (b .status) ≡ false → (v ≡ 0 → ⊥) → propose b v ≡ begun
+  unfolding propose startingWith
+  propose-starts s z = if-false (isStarted (b .status) or eqb v 0) b begun (or-no (isStarted (b .status)) (eqb v 0) s (ne-eqb v 0 z))
+
+  pub propose-started : isStarted (b .status) ≡ true → propose b v ≡ b
+  unfolding propose startingWith
+  propose-started s = if-true (isStarted (b .status) or eqb v 0) b begun (or-left (isStarted (b .status)) (eqb v 0) s)
+
+  pub propose-blank : v ≡ 0 → propose b v ≡ b
+  unfolding propose startingWith
+  propose-blank z = if-true (isStarted (b .status) or eqb v 0) b begun (or-right (isStarted (b .status)) (eqb v 0) (eq-eqb v 0 z))
+
+  pub propose-cases : (propose b v ≡ b)
+      ⊎ ((isStarted (b .status) ≡ false) × (v ≡ 0 → ⊥) × (propose b v ≡ placed b (record { 0 = 1 }) v Open (b .delivered) Voting))
+  propose-cases = go (decided (isStarted (b .status))) (ℕ-discrete v 0)
+    where
+      go : (isStarted (b .status) ≡ true) ⊎ (isStarted (b .status) ≡ false) → Dec (v ≡ 0)
+          → (propose b v ≡ b) ⊎ ((isStarted (b .status) ≡ false) × (v ≡ 0 → ⊥) × (propose b v ≡ begun))
+      go (inl s) d = inl (propose-started s)
+      go (inr s) (yes z) = inl (propose-blank z)
+      go (inr s) (no z) = inr (s, z, propose-starts s z)
+
+-- a delivery adds the statement to what the board has heard, and changes nothing else, however far the board is
+pub hears-delivers : (L : Limits) (d : Delivered) (s : Statement) → hears L d s ≡ deliver L d (s .speaker) (s .id .0) (s .value)
+unfolding hears
+hears-delivers L d s = refl
+
+pub hears-grows : (L : Limits) (d : Delivered) (s : Statement) → Grows (heard L d) (heard L (hears L d s))
+unfolding hears
+hears-grows L d s = deliver-grows L d (s .speaker) (s .id .0) (s .value)
+
+pub hears-whole : (L : Limits) (d : Delivered) (s : Statement) → Whole L d → Whole L (hears L d s)
+unfolding hears
+hears-whole L d s = deliver-whole L d (s .speaker) (s .id .0) (s .value)
+
+pub deliver-hears : (L : Limits) (b : Board) (s : Statement)
+    → deliverTo L b s ≡ record { position = b .position; delivered = hears L (b .delivered) s; status = b .status }
+unfolding deliverTo
+deliver-hears L b s = refl
+
+-- a suspicion, or trust, changes the set of the suspected alone, and a second time it changes nothing
+abbrev pub doubting : Board → ℕ → Board
+doubting b m =
+    record {
+      position = record { round = b .position .round; estimate = b .position .estimate; stage = b .position .stage; suspected = m };
+      delivered = b .delivered;
+      status = b .status;
+    }
+
+pub suspect-adds : (b : Board) (k : ℕ) → suspect b k ≡ doubting b (withBoard (b .position .suspected) k)
+unfolding suspect suspecting
+suspect-adds b k = refl
+
+pub trust-drops : (b : Board) (k : ℕ) → trust b k ≡ doubting b (withoutBoard (b .position .suspected) k)
+unfolding trust suspecting
+trust-drops b k = refl
+
+pub suspect-twice : (b : Board) (k : ℕ) → suspect (suspect b k) k ≡ suspect b k
+unfolding suspect suspecting
+suspect-twice b k = ap (doubting b) (with-twice (b .position .suspected) k)
+
+pub trust-twice : (b : Board) (k : ℕ) → trust (trust b k) k ≡ trust b k
+unfolding trust suspecting
+trust-twice b k = ap (doubting b) (without-twice (b .position .suspected) k)
+
+-- an announcement, read both ways: what convinces a board, and what then comes of it
+module _ (L : Limits) (n : ℕ) (b : Board) (r v : ℕ) where
+  abbrev votes : ℕ
+  votes = tally L n (heard L (b .delivered)) r v
+
+  pub record Convinced : Type 0 where
+    pub started : isStarted (b .status) ≡ true
+    pub undecided : isDecided (b .status) ≡ false
+    pub won : Won L n (heard L (b .delivered)) r v
+
+  pub convinced-reads : convinced L n b r v ≡ true → Convinced
+  unfolding convinced
+  convinced-reads t =
+      let s = isStarted (b .status) in
+      let u = neg (isDecided (b .status)) in
+      let z = neg (eqb v 0) in
+      let q = leb (quorum n) votes in
+      let t1 = and-right s (u and z and q) t in
+      let t2 = and-right u (z and q) t1 in
+      record {
+        started = and-left s (u and z and q) t;
+        undecided = neg-true (isDecided (b .status)) (and-left u (z and q) t1);
+        won = tally-won L n (heard L (b .delivered)) r v (some-value v (and-left z q t2)) (leb-true (quorum n) votes (and-right z q t2));
+      }
+
+  pub reads-convinced : Convinced → convinced L n b r v ≡ true
+  unfolding convinced tally
+  reads-convinced c =
+      let u = neg (isDecided (b .status)) in
+      let z = neg (eqb v 0) in
+      let q = leb (quorum n) votes in
+      and-in
+      (isStarted (b .status))
+      (u and z and q)
+      (c .started)
+      (and-in
+      u
+      (z and q)
+      (neg-in (isDecided (b .status)) (c .undecided))
+      (and-in z q (value-some v (c .won .value)) (le-leb (quorum n) votes (c .won .quorum-bears))))
+
+  abbrev pub adopted : Board
+  adopted =
+      record { position = b .position; delivered = b .delivered; status = Decided (record { round = record { 0 = r }; value = v }) }
+
+  pub announce-decides : convinced L n b r v ≡ true → announce L n b r v ≡ adopted
+  unfolding announce withStatus
+  announce-decides t = if-true (convinced L n b r v) adopted b t
+
+  pub announce-refused : convinced L n b r v ≡ false → announce L n b r v ≡ b
+  unfolding announce withStatus
+  announce-refused t = if-false (convinced L n b r v) adopted b t
+
+  pub announce-cases : (announce L n b r v ≡ b) ⊎ (Convinced × (announce L n b r v ≡ adopted))
+  announce-cases = go (decided (convinced L n b r v))
+    where
+      go : (convinced L n b r v ≡ true) ⊎ (convinced L n b r v ≡ false) → (announce L n b r v ≡ b) ⊎ (Convinced × (announce L n b r v ≡ adopted))
+      go (inl t) = inr (convinced-reads t, announce-decides t)
+      go (inr t) = inl (announce-refused t)
