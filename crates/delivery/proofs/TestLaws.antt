@@ -77,6 +77,10 @@ pub or-no : (a b : Bool) → a ≡ false → b ≡ false → (a or b) ≡ false
 unfolding _or_
 or-no a b p q = rw p q
 
+pub or-no-left : (a b : Bool) → a ≡ false → (a or b) ≡ b
+unfolding _or_
+or-no-left a b h = rw h
+
 pub or-no-right : (a b : Bool) → b ≡ false → (a or b) ≡ a
 unfolding _or_
 or-no-right true b h = refl

@@ -47,7 +47,7 @@ module _ (L : Limits) (n me : ℕ) (b : Board) where
   course-grows t (not-taken a f e) = subst⁻¹ from (ap (λ (u : Turn). u .board) e) (grows-same (store L b))
   course-grows t (passed v g f e) = subst⁻¹ from (ap (λ (u : Turn). u .board) e) (grows-same (store L b))
   course-grows t (opened v g c e) = subst⁻¹ from (ap (λ (u : Turn). u .board) e) (hears-grows L (b .delivered) _)
-  course-grows t (balloted v g e) = subst⁻¹ from (ap (λ (u : Turn). u .board) e) (hears-grows L (b .delivered) _)
+  course-grows t (balloted v g y e) = subst⁻¹ from (ap (λ (u : Turn). u .board) e) (hears-grows L (b .delivered) _)
   course-grows t (decided w v g m o e) = subst⁻¹ from (ap (λ (u : Turn). u .board) e) (grows-same (store L b))
   course-grows t (advanced w v g m z l x e) = subst⁻¹ from (ap (λ (u : Turn). u .board) e) (grows-same (store L b))
   course-grows t (expired w v g m z l x e) = subst⁻¹ from (ap (λ (u : Turn). u .board) e) (grows-same (store L b))
@@ -91,7 +91,7 @@ module _ (L : Limits) (n me : ℕ) (b : Board) where
   course-won t (not-taken a f e) d i = inl (sym (ap (λ (u : Turn). u .board .status) e) ∙ i)
   course-won t (passed v g f e) d i = absurd (voting-decided d (sym (ap (λ (u : Turn). u .board .status) e) ∙ i))
   course-won t (opened v g c e) d i = absurd (voting-decided d (sym (ap (λ (u : Turn). u .board .status) e) ∙ i))
-  course-won t (balloted v g e) d i = absurd (voting-decided d (sym (ap (λ (u : Turn). u .board .status) e) ∙ i))
+  course-won t (balloted v g y e) d i = absurd (voting-decided d (sym (ap (λ (u : Turn). u .board .status) e) ∙ i))
   course-won t (decided w v g m o e) d i =
       let k = decided-one (record { round = b .position .round; value = w }) d (sym (ap (λ (u : Turn). u .board .status) e) ∙ i) in
       inr (subst (λ (x : Decision). Won L n (store L b) (x .round .0) (x .value)) k o)

@@ -64,7 +64,7 @@ module _ (L : Limits) (b : Board) (p : Proper L b) where
   course-proper n me t (passed v g f e) = subst⁻¹ (Proper L) (ap (λ (u : Turn). u .board) e) (same-round Vote (b .delivered) v (p .whole))
   course-proper n me t (opened v g c e) =
       subst⁻¹ (Proper L) (ap (λ (u : Turn). u .board) e) (same-round Vote _ v (hears-whole L (b .delivered) _ (p .whole)))
-  course-proper n me t (balloted v g e) =
+  course-proper n me t (balloted v g y e) =
       subst⁻¹ (Proper L) (ap (λ (u : Turn). u .board) e) (same-round Count _ v (hears-whole L (b .delivered) _ (p .whole)))
   course-proper n me t (decided w v g m o e) =
       subst⁻¹

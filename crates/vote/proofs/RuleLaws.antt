@@ -18,12 +18,12 @@ use Rattle.delivery.specs.Rounds.{coordinator}
 use Rattle.delivery.specs.Sets.{inSet}
 use Rattle.delivery.specs.Delivered.{Store}
 use Rattle.delivery.specs.Acceptance.{acceptsOpening, acceptsSome}
-use Rattle.delivery.proofs.TestLaws.{and-left, and-right, and-in, and-no-left, and-yes-left, neg-no, or-cases, or-left, or-right, or-no, decided}
+use Rattle.delivery.proofs.TestLaws.{and-left, and-right, and-in, and-no-left, and-yes-left, neg-no, or-cases, or-left, or-right, or-no-left, decided}
 use Rattle.delivery.proofs.CountLaws.{every-reads, reads-every}
 use Rattle.delivery.proofs.OneRoundLaws.{value-some}
 use Rattle.delivery.proofs.AgreementLaws.{Won}
 use Rattle.vote.specs.Ballots.{sentOpening, openedValue, valueWith}
-use Rattle.vote.specs.Rule.{openMove, voteMove, mayCount, chosen, carried, nextEstimate, onward, countMove, moveAt, rule}
+use Rattle.vote.specs.Rule.{openMove, mayVote, voteMove, mayCount, chosen, carried, nextEstimate, onward, countMove, moveAt, rule}
 use Rattle.vote.specs.declared.position.Position.{Position}
 use Rattle.vote.specs.declared.position.Stage.{Stage}
 use Rattle.vote.specs.declared.position.Stage.the-variants.{Open, Vote, Count}
@@ -54,19 +54,21 @@ module _ (L : Limits) (n : ℕ) (p : Position) (h : Store) where
   doubted = inSet (p .suspected) (coordinator n r)
 
   -- stage B
-  pub vote-sent : (sentOpening L n h r ≡ 0 → ⊥) → voteMove L n p h ≡ Ballots (openedValue L n h r)
-  unfolding voteMove
-  vote-sent z =
-      if-true (sent or doubted) (Ballots (openedValue L n h r)) Waits (or-left sent doubted (value-some (sentOpening L n h r) z))
+  pub sent-votes : (sentOpening L n h r ≡ 0 → ⊥) → mayVote L n p h ≡ true
+  unfolding mayVote
+  sent-votes z = or-left sent doubted (value-some (sentOpening L n h r) z)
 
-  pub vote-suspected : inSet (p .suspected) (coordinator n r) ≡ true → voteMove L n p h ≡ Ballots (openedValue L n h r)
-  unfolding voteMove
-  vote-suspected s = if-true (sent or doubted) (Ballots (openedValue L n h r)) Waits (or-right sent doubted s)
+  pub unsent-votes : sentOpening L n h r ≡ 0 → mayVote L n p h ≡ inSet (p .suspected) (coordinator n r)
+  unfolding mayVote
+  unsent-votes z = or-no-left sent doubted (neg-no (eqb (sentOpening L n h r) 0) (eq-eqb (sentOpening L n h r) 0 z))
 
-  pub vote-waits : sentOpening L n h r ≡ 0 → inSet (p .suspected) (coordinator n r) ≡ false → voteMove L n p h ≡ Waits
+  pub vote-ballots : mayVote L n p h ≡ true → voteMove L n p h ≡ Ballots (openedValue L n h r)
   unfolding voteMove
-  vote-waits z s =
-      if-false (sent or doubted) (Ballots (openedValue L n h r)) Waits (or-no sent doubted (neg-no (eqb (sentOpening L n h r) 0) (eq-eqb (sentOpening L n h r) 0 z)) s)
+  vote-ballots t = if-true (mayVote L n p h) (Ballots (openedValue L n h r)) Waits t
+
+  pub vote-waits : mayVote L n p h ≡ false → voteMove L n p h ≡ Waits
+  unfolding voteMove
+  vote-waits f = if-false (mayVote L n p h) (Ballots (openedValue L n h r)) Waits f
 
   -- stage C
   abbrev present : ℕ → Bool
@@ -176,12 +178,11 @@ next-estimate L n p h = go (ℕ-discrete (carried L n p h) 0)
 
 -- what is known of a board that makes a move
 pub data Acts (L : Limits) (n me : ℕ) (p : Position) (h : Store) : Move → Type 0 where
-  awaits-opening : p .stage ≡ Vote → sentOpening L n h (p .round .0) ≡ 0
-      → inSet (p .suspected) (coordinator n (p .round .0)) ≡ false → Acts L n me p h Waits
+  awaits-opening : p .stage ≡ Vote → mayVote L n p h ≡ false → Acts L n me p h Waits
   awaits-ballots : p .stage ≡ Count → mayCount L n p h ≡ false → Acts L n me p h Waits
   passes : p .stage ≡ Open → (me ≡ coordinator n (p .round .0) → ⊥) → Acts L n me p h Passes
   opens : (v : ℕ) → p .stage ≡ Open → me ≡ coordinator n (p .round .0) → v ≡ p .estimate → Acts L n me p h (Opens v)
-  ballots : (v : ℕ) → p .stage ≡ Vote → v ≡ openedValue L n h (p .round .0) → Acts L n me p h (Ballots v)
+  ballots : (v : ℕ) → p .stage ≡ Vote → mayVote L n p h ≡ true → v ≡ openedValue L n h (p .round .0) → Acts L n me p h (Ballots v)
   decides : (v : ℕ) → p .stage ≡ Count → MayCount L n p h → Won L n h (p .round .0) v → Acts L n me p h (Decides v)
   advances : (v : ℕ) → p .stage ≡ Count → MayCount L n p h → chosen L n p h ≡ 0 → p .round .0 < L .rounds → Next L n p h v → Acts L n me p h (Advances v)
   expires : (v : ℕ) → p .stage ≡ Count → MayCount L n p h → chosen L n p h ≡ 0 → L .rounds ≤ p .round .0 → Next L n p h v → Acts L n me p h (Expires v)
@@ -198,17 +199,11 @@ module _ (L : Limits) (n me : ℕ) (p : Position) (h : Store) where
       go (no f) = subst⁻¹ Act (open-other n me p f) (passes s f)
 
   vote-acts : p .stage ≡ Vote → Act (voteMove L n p h)
-  vote-acts s = go (ℕ-discrete (sentOpening L n h (p .round .0)) 0) (decided (inSet (p .suspected) (coordinator n (p .round .0))))
+  vote-acts s = go (decided (mayVote L n p h))
     where
-      cast : Act (Ballots (openedValue L n h (p .round .0)))
-      cast = ballots (openedValue L n h (p .round .0)) s refl
-
-      go : Dec (sentOpening L n h (p .round .0) ≡ 0)
-          → (inSet (p .suspected) (coordinator n (p .round .0)) ≡ true) ⊎ (inSet (p .suspected) (coordinator n (p .round .0)) ≡ false)
-          → Act (voteMove L n p h)
-      go (no z) d = subst⁻¹ Act (vote-sent L n p h z) cast
-      go (yes z) (inl t) = subst⁻¹ Act (vote-suspected L n p h t) cast
-      go (yes z) (inr t) = subst⁻¹ Act (vote-waits L n p h z t) (awaits-opening s z t)
+      go : (mayVote L n p h ≡ true) ⊎ (mayVote L n p h ≡ false) → Act (voteMove L n p h)
+      go (inl t) = subst⁻¹ Act (vote-ballots L n p h t) (ballots (openedValue L n h (p .round .0)) s t refl)
+      go (inr t) = subst⁻¹ Act (vote-waits L n p h t) (awaits-opening s t)
 
   onward-acts : p .stage ≡ Count → MayCount L n p h → chosen L n p h ≡ 0 → Act (onward L n p h)
   onward-acts s m z = go (decLt (p .round .0) (L .rounds))

@@ -119,7 +119,7 @@ module _ (L : Limits) (n me : ℕ) (b : Board) where
       (ap (λ (u : Turn). u .signed) e)
       (ap (λ (u : Turn). u .board .delivered) e)
       (open-vote t v g (ap (λ (u : Turn). due L (u .board)) e))
-  course-speech t (balloted v g e) =
+  course-speech t (balloted v g y e) =
       speaks
       _
       (signs-ballot v g refl)
@@ -160,7 +160,7 @@ module _ (L : Limits) (n me : ℕ) (b : Board) where
   course-due t (not-taken a f e) i = rw e (omega arith)
   course-due t (passed v g f e) i = le-of-lt (open-vote t v g (ap (λ (u : Turn). due L (u .board)) e) (i v))
   course-due t (opened v g c e) i = le-of-lt (open-vote t v g (ap (λ (u : Turn). due L (u .board)) e) (i v))
-  course-due t (balloted v g e) i = le-of-lt (vote-count t v g (ap (λ (u : Turn). due L (u .board)) e))
+  course-due t (balloted v g y e) i = le-of-lt (vote-count t v g (ap (λ (u : Turn). due L (u .board)) e))
   course-due t (decided w v g m o e) i =
       let x : due L (t .board) ≡ dueAt L r (b .position .stage) = ap (λ (u : Turn). due L (u .board)) e in
       let y : due L b ≡ dueAt L r (b .position .stage) = ap (dueIn L (b .position)) v in

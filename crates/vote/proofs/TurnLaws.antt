@@ -15,7 +15,7 @@ use Rattle.delivery.proofs.RoundLaws.{next-at}
 use Rattle.delivery.proofs.AgreementLaws.{Won}
 use Rattle.vote.specs.Ballots.{openedValue}
 use Rattle.vote.specs.Boards.{isEnded, hears}
-use Rattle.vote.specs.Rule.{chosen, rule}
+use Rattle.vote.specs.Rule.{mayVote, chosen, rule}
 use Rattle.vote.specs.Turns.{atStage, positionAfter, statusAfter, statement, saidIn, hearsOwn, answerTo, refuse, take, turnIn, turn}
 use Rattle.vote.specs.declared.position.Stage.{Stage}
 use Rattle.vote.specs.declared.position.Stage.the-variants.{Open, Vote, Count}
@@ -160,7 +160,7 @@ module _ (L : Limits) (n me : ℕ) (b : Board) where
         ≡ spoken
         (placed b round (b .position .estimate) Vote (hears L (b .delivered) (told L me round Opening (b .position .estimate))) Voting)
         (told L me round Opening (b .position .estimate)) → Course t
-    balloted : b .status ≡ Voting → b .position .stage ≡ Vote
+    balloted : b .status ≡ Voting → b .position .stage ≡ Vote → mayVote L n (b .position) store ≡ true
         → t
         ≡ spoken
         (placed b round (b .position .estimate) Count (hears L (b .delivered) (told L me round Ballot (openedValue L n store (round .0)))) Voting)
@@ -180,7 +180,7 @@ module _ (L : Limits) (n me : ℕ) (b : Board) where
   voting-course Waits e a = not-taken Waiting waiting-not (take-waits L me b e)
   voting-course Passes e (passes s f) = passed e s f (take-passes L me b)
   voting-course (Opens v) e (opens _ s c i) = opened e s c (ap (λ (w : ℕ). take L me b (Opens w)) i ∙ take-opens L me b (b .position .estimate))
-  voting-course (Ballots v) e (ballots _ s i) = balloted e s (ap (λ (w : ℕ). take L me b (Ballots w)) i ∙ take-ballots L me b (openedValue L n store (round .0)))
+  voting-course (Ballots v) e (ballots _ s t i) = balloted e s t (ap (λ (w : ℕ). take L me b (Ballots w)) i ∙ take-ballots L me b (openedValue L n store (round .0)))
   voting-course (Decides v) e (decides _ s m w) = decided v e s m w (take-decides L me b v)
   voting-course (Advances v) e (advances _ s m z l x) =
       advanced
@@ -213,7 +213,7 @@ module _ (L : Limits) (n me : ℕ) (b : Board) where
   course-refused t (not-taken a f e) x = (ap (λ (u : Turn). u .board) e, ap (λ (u : Turn). u .signed) e)
   course-refused t (passed v g f e) x = absurd (x (ap (λ (u : Turn). u .answer) e))
   course-refused t (opened v g c e) x = absurd (x (ap (λ (u : Turn). u .answer) e))
-  course-refused t (balloted v g e) x = absurd (x (ap (λ (u : Turn). u .answer) e))
+  course-refused t (balloted v g y e) x = absurd (x (ap (λ (u : Turn). u .answer) e))
   course-refused t (decided w v g m o e) x = absurd (x (ap (λ (u : Turn). u .answer) e))
   course-refused t (advanced w v g m z l k e) x = absurd (x (ap (λ (u : Turn). u .answer) e))
   course-refused t (expired w v g m z l k e) x = absurd (x (ap (λ (u : Turn). u .answer) e))
@@ -231,7 +231,7 @@ module _ (L : Limits) (n me : ℕ) (b : Board) where
   course-estimate t (not-taken a f e) = inl (ap (λ (u : Turn). u .board .position .estimate) e)
   course-estimate t (passed v g f e) = inl (ap (λ (u : Turn). u .board .position .estimate) e)
   course-estimate t (opened v g c e) = inl (ap (λ (u : Turn). u .board .position .estimate) e)
-  course-estimate t (balloted v g e) = inl (ap (λ (u : Turn). u .board .position .estimate) e)
+  course-estimate t (balloted v g y e) = inl (ap (λ (u : Turn). u .board .position .estimate) e)
   course-estimate t (decided w v g m o e) = inl (ap (λ (u : Turn). u .board .position .estimate) e)
   course-estimate t (advanced w v g m z l k e) =
       rw (ap (λ (u : Turn). u .board .position .estimate) e) (next-origin L n me (b .position) store w k)

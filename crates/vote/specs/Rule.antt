@@ -27,13 +27,15 @@ module _ (L : Limits) (n : ℕ) (p : Position) (h : Store) where
   abbrev r : ℕ
   r = p .round .0
 
-  -- Stage B: once the coordinator's opening has arrived, whatever it bears, or the coordinator is suspected, the board
-  -- gives its ballot: for the opening's value if it accepts the opening, and otherwise blank. Until then it waits.
+  -- Stage B, when the board may vote: the coordinator's opening has arrived, whatever it bears, or the coordinator is
+  -- suspected.
+  unfoldable pub mayVote : Bool
+  mayVote = neg (eqb (sentOpening L n h r) 0) or inSet (p .suspected) (coordinator n r)
+
+  -- Stage B: until it may vote, the board waits. Then it gives its ballot, for the opening's value if it accepts the
+  -- opening, and otherwise blank.
   unfoldable pub voteMove : Move
-  voteMove =
-      if neg (eqb (sentOpening L n h r) 0) or inSet (p .suspected) (coordinator n r)
-      then Ballots (openedValue L n h r)
-      else Waits
+  voteMove = if mayVote then Ballots (openedValue L n h r) else Waits
 
   -- Stage C, when the board may count: ballots of q boards or more are accepted, and each board that has no accepted
   -- ballot is suspected.

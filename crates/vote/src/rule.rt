@@ -1,7 +1,7 @@
 ghost use mathlib.Core.Path.{_≡_};
 ghost use Rattle.delivery.specs.Limits.{limits};
 ghost use Rattle.delivery.specs.Delivered.{heard};
-ghost use Rattle.vote.specs.Rule.{openMove, voteMove, mayCount, nextEstimate, onward, countMove, rule};
+ghost use Rattle.vote.specs.Rule.{openMove, mayVote, voteMove, mayCount, nextEstimate, onward, countMove, rule};
 use crate::ballots;
 use crate::position::Position;
 use crate::position::Stage;
@@ -32,18 +32,25 @@ impl Position {
         Move::Passes
     }
 
+    // Whether the board may vote: its coordinator's opening is there, or the coordinator is suspected.
+    fn may_vote(self, n: u8, delivered: Delivered) -> bool
+        ensures { λ r. ⌜ r ≡ mayVote limits n self (heard limits delivered) ⌝ }
+    {
+        let round = self.round;
+        if delivered.opening(n, round) != 0 {
+            return true;
+        }
+        set::has(self.suspected, round.coordinator(n))
+    }
+
     // Stage B.
     fn vote_move(self, n: u8, delivered: Delivered) -> Move
         ensures { λ r. ⌜ r ≡ voteMove limits n self (heard limits delivered) ⌝ }
     {
-        let round = self.round;
-        if delivered.opening(n, round) != 0 {
-            return Move::Ballots(ballots::opened_value(delivered, n, round));
+        if !self.may_vote(n, delivered) {
+            return Move::Waits;
         }
-        if set::has(self.suspected, round.coordinator(n)) {
-            return Move::Ballots(ballots::opened_value(delivered, n, round));
-        }
-        Move::Waits
+        Move::Ballots(ballots::opened_value(delivered, n, self.round))
     }
 
     // Whether the board may count: a quorum has ballots, and every board without one is suspected.
