@@ -1,8 +1,9 @@
 -- What is allowed in the next round, by counts: how many ballots are blank, and how many bear the value of
 -- the opening that counts. So no choice of speakers has to be tried. Assumes nothing.
-use Prim.Native.Nat.{ℕ, _+_, _-_, _≤_, _<_, min}
+use Prim.Native.Nat.{ℕ, suc, _+_, _-_, _≤_, _<_, min}
 use native.Mathlib.Omega.{arith}
 use native.Mathlib.Decide.{decLe}
+use native.Mathlib.Numerals.{add-one}
 use mathlib.Core.Path.{_≡_, refl, ap, _∙_, sym}
 use mathlib.Core.Bool.{Bool, true, true≢false}
 use mathlib.Core.Logic.{_⊎_, inl, inr, ⊎-elim}
@@ -11,14 +12,17 @@ use lib.ListN.{length}
 use Rattle.signer.specs.Choice.{if_then_else_}
 use Rattle.signer.specs.Log.{entryOf}
 use Rattle.signer.proofs.ChoiceLaws.{if-elim}
+use Rattle.delivery.specs.Tests.{_or_}
 use Rattle.delivery.specs.Counting.{countIn, countOf}
 use Rattle.delivery.specs.Limits.{Limits}
 use Rattle.delivery.specs.Bus.{quorum, overlap}
 use Rattle.delivery.specs.Delivered.{Store}
-use Rattle.delivery.specs.Acceptance.{says, bears, allowedAfter, opens}
-use Rattle.delivery.proofs.CountLaws.{overlap-pos, overlap-le}
+use Rattle.delivery.specs.Acceptance.{says, bears, allowedAfter, opens, counts, countsSome, allowed, acceptsBallot, acceptsSome}
+use Rattle.delivery.proofs.TestLaws.{or-left, or-right, same-test}
+use Rattle.delivery.proofs.CountLaws.{overlap-pos, overlap-le, count-cong, count-mono, count-or, find}
 use Rattle.delivery.proofs.ChoosingLaws.{choice-within, find-member, count-alike, length-either, Chosen, choose}
-use Rattle.delivery.proofs.OneRoundLaws.{says-value, value-says, Opens, bears-reads, reads-bears, Counts, Divided, Carries, reads-after, carried-opened, openingEntry, opens-reads, reads-opens}
+use Rattle.delivery.proofs.OneRoundLaws.{says-value, value-says, Opens, bears-reads, reads-bears, Counts, Divided, Carries, reads-after, carried-opened, openingEntry, opens-reads, reads-opens, counts-reads, reads-counts, some-reads, ballot-opened}
+use Rattle.delivery.proofs.AllRoundsLaws.{allowed-next, allowed-blank}
 
 -- q of b and d: d first
 share : (q b d : ℕ) → q ≤ b + d → (q - min d q ≤ b) × (min d q ≤ d) × ((q - min d q) + min d q ≡ q)
@@ -74,6 +78,42 @@ module _ (L : Limits) (n : ℕ) (h : Store) (may : ℕ → Bool) (r x : ℕ) (o 
   apart s b c =
       let y = backs-reads s c in
       o .sound (y .0) (y .1) .value (omega (arith, y .2 .said, bears-reads L h r 0 s b))
+
+  -- so no more ballots count than are blank or bear it
+  counted-most : countIn n (countsSome L n h may r) ≤ blank L n h r + backing L n h r x
+  counted-most =
+      omega (
+        arith,
+        count-mono
+            n
+            (countsSome L n h may r)
+            (λ (s : ℕ). bears L h r 0 s or backs L h r x s)
+            (λ s l u b.
+            let y = some-reads L n h may r s b in
+            ⊎-elim
+            (or-left (bears L h r 0 s) (backs L h r x s))
+            (or-right (bears L h r 0 s) (backs L h r x s))
+            (either (y .0) s (y .1))),
+        count-or n (bears L h r 0) (backs L h r x),
+      )
+
+  -- and those that bear it all count
+  counted-backing : (w : ℕ) → x ≡ entryOf w → countIn n (counts L n h may r w) ≡ backing L n h r x
+  unfolding backs
+  counted-backing w e =
+      count-cong
+      n
+      (counts L n h may r w)
+      (backs L h r x)
+      (λ s l u.
+      same-test
+      (counts L n h may r w s)
+      (backs L h r x s)
+      (λ b. value-says x w (λ (v : ℕ). bears L h r v s) e (reads-bears L h r w s (counts-reads L n h may r w s b .said)))
+      (λ b.
+      let y = backs-reads s b in
+      let i : y .0 ≡ w = omega (arith, y .1) in
+      reads-counts L n h may r w s (rw i at (y .2))))
 
   -- the opening's value is borne by those that back it
   same : (w : ℕ) → x ≡ entryOf w → (ss : List ℕ) → countOf (bears L h r w) ss ≡ countOf (backs L h r x) ss
@@ -221,3 +261,56 @@ module _ (L : Limits) (n : ℕ) (h : Store) (may : ℕ → Bool) (r : ℕ) where
     where
       x : ℕ
       x = if says sent (opens L n h may r) then sent else 0
+
+-- the same of accepted ballots, where q boards or more have one
+module _ (L : Limits) (n : ℕ) (h : Store) (r : ℕ) (some : 1 ≤ n) (low : 1 ≤ r) (enough : quorum n ≤ countIn n (acceptsSome L n h r)) where
+  abbrev may : ℕ → Bool
+  may = allowed L n h r
+
+  abbrev entry : ℕ
+  entry = if says (sent L n h may r) (opens L n h may r) then sent L n h may r else 0
+
+  -- so many are blank or bear the opening's value
+  counted : quorum n ≤ blank L n h r + backing L n h r entry
+  unfolding acceptsSome
+  counted = omega (arith, enough, counted-most L n h may r entry (opened-entry L n h may r))
+
+  -- a value that e or more of them bear is allowed in the next round
+  pub borne-next : (w : ℕ) → (w ≡ 0 → ⊥) → overlap n ≤ countIn n (λ (s : ℕ). acceptsBallot L n h r s w) → allowed L n h (suc r) w ≡ true
+  unfolding acceptsBallot
+  borne-next w z l =
+      let o = opened-entry L n h may r in
+      let s = find n (counts L n h may r w) (omega (arith, l, overlap-pos n some)) in
+      let e = o .complete w (ballot-opened L n h may r w (s .0) z (counts-reads L n h may r w (s .0) (s .3))) in
+      ap (λ (m : ℕ). allowed L n h m w) (sym (add-one r))
+      ∙ allowed-next L n h r w low
+      ∙ many-allowed L n h may r entry o w z e counted (omega (arith, l, counted-backing L n h may r entry o w e))
+
+  -- and where no value has so many, one that is allowed in this round
+  pub kept-next : (w : ℕ) → ((v : ℕ) → (v ≡ 0 → ⊥) → countIn n (λ (s : ℕ). acceptsBallot L n h r s v) < overlap n)
+      → allowed L n h r w ≡ true → allowed L n h (suc r) w ≡ true
+  unfolding acceptsBallot
+  kept-next w f a =
+      ap (λ (m : ℕ). allowed L n h m w) (sym (add-one r))
+      ∙ allowed-next L n h r w low
+      ∙ few-allowed
+      L
+      n
+      h
+      may
+      r
+      entry
+      (opened-entry L n h may r)
+      w
+      some
+      (λ z. true≢false (sym a ∙ ap may z ∙ allowed-blank L n h r))
+      (omega (arith, counted, few (decLe 1 (backing L n h r entry))))
+      a
+    where
+      few : Dec (1 ≤ backing L n h r entry) → backing L n h r entry < overlap n
+      few (no l) = omega (arith, overlap-pos n some)
+      few (yes l) =
+          let o = opened-entry L n h may r in
+          let s = find n (backs L h r entry) l in
+          let y = backs-reads L n h may r entry o (s .0) (s .3) in
+          omega (arith, f (y .0) (o .sound (y .0) (y .1) .value), counted-backing L n h may r entry o (y .0) (y .1))

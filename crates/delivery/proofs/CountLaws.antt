@@ -6,7 +6,7 @@ use native.Mathlib.Omega.{arith}
 use native.Mathlib.Decide.{decLe}
 use borrow.Author.Tests.{eqb-true, eq-eqb}
 use lib.Dec.{eqb}
-use Rattle.delivery.specs.Tests.{_and_}
+use Rattle.delivery.specs.Tests.{_and_, _or_}
 use Rattle.delivery.specs.Counting.{plus, countIn, everyIn}
 use Rattle.delivery.specs.Bus.{quorum, overlap}
 use Rattle.delivery.proofs.TestLaws.{and-left, and-right, and-in, same-test}
@@ -138,6 +138,20 @@ shared (suc n) p p′ =
     (countIn n p′)
     (countIn n (λ (k : ℕ). p k and p′ k))
     (shared n p p′)
+
+-- what passes one of two tests is counted by one of them
+plus-or : (a b : Bool) (x y z : ℕ) → z ≤ x + y → plus (a or b) z ≤ plus a x + plus b y
+unfolding plus _or_
+plus-or true true x y z h = omega arith
+plus-or true false x y z h = omega arith
+plus-or false true x y z h = omega arith
+plus-or false false x y z h = omega arith
+
+pub count-or : (n : ℕ) (p p′ : ℕ → Bool) → countIn n (λ (k : ℕ). p k or p′ k) ≤ countIn n p + countIn n p′
+unfolding countIn
+count-or zero p p′ = omega arith
+count-or (suc n) p p′ =
+    plus-or (p (suc n)) (p′ (suc n)) (countIn n p) (countIn n p′) (countIn n (λ (k : ℕ). p k or p′ k)) (count-or n p p′)
 
 -- two quorums have e more than all boards together, so they share e boards; e is 1 or more, and at most q
 pub quorums-meet : (n : ℕ) → n + overlap n ≤ quorum n + quorum n

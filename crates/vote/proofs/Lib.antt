@@ -6,3 +6,4 @@ pub mod BoardLaws
 pub mod SigningLaws
 pub mod ProperLaws
 pub mod LifeLaws
+pub mod EstimateLaws
