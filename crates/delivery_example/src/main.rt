@@ -7,6 +7,7 @@ use delivery::Phase;
 use delivery::Round;
 use delivery::set;
 use libc::STDOUT_FILENO;
+use signer::Log;
 
 fn write(text: &[u8]) {
     io::write_all(STDOUT_FILENO, text);
@@ -106,7 +107,7 @@ fn letter(d: Delivered, n: u8, name: &[u8]) {
     ask_allowed(d, n, 2, 0);
     ask_allowed(d, n, 2, 1);
     ask_allowed(d, n, 2, 9);
-    ask_allowed(d, n, 2, 65535);
+    ask_allowed(d, n, 2, Log::VALUES);
 }
 
 fn letters() {

@@ -3,6 +3,7 @@
 // identifier, and the value or `nothing`.
 use libc::STDOUT_FILENO;
 use signer::Identifier;
+use signer::Log;
 use signer::Signer;
 
 fn write_number(n: u64) {
@@ -45,7 +46,7 @@ fn main() {
     s = ask(s, 0, 1);
     s = ask(s, Identifier::LAST + 1, 2);
     s = ask(s, 255, 3);
-    s = ask(s, Identifier::LAST - 1, 65535);
+    s = ask(s, Identifier::LAST - 1, Log::VALUES);
     s = ask(s, Identifier::LAST, 0);
     s = ask(s, Identifier::LAST, 4);
     show(s, 0);

@@ -7,3 +7,4 @@ pub mod SigningLaws
 pub mod ProperLaws
 pub mod LifeLaws
 pub mod EstimateLaws
+pub mod ExampleLaws

@@ -7,3 +7,4 @@ pub mod Rule
 pub mod Turns
 pub mod Announcements
 pub mod Calls
+pub mod Examples

@@ -100,9 +100,9 @@ impl Board {
     {
         let status = self.status;
         match status {
-            Status::Spent => true,
-            Status::Decided(_) => true,
-            _ => false,
+            Status::Idle => false,
+            Status::Voting => false,
+            _ => true,
         }
     }
 

@@ -4,7 +4,7 @@ use denote.Enum.Declared.{tagOf}
 use types.Run.{OneOf, miss}
 use mathlib.Core.Path.{_≡_, refl}
 use mathlib.Core.List.{[], _∷_}
-use mathlib.Core.Bool.{false}
+use mathlib.Core.Bool.{true}
 use Rattle.vote.specs.Boards.{isEnded}
 use Rattle.vote.specs.declared.board.Status.{Status}
 use Rattle.vote.specs.declared.board.Status.the-variants.{Idle, Voting, Spent, Decided}
@@ -12,13 +12,13 @@ use Rattle.vote.proofs.board.Status.{the-type}
 use Rattle.vote.proofs.board.Board.is_ended.Statement.{statement}
 use Rattle.vote.proofs.board.Board.is_ended.Tie as tie
 
--- no status but `Spent` and `Decided`, variants 2 and 3, is that of a board that has ended
-rest : (x : Status) → OneOf (0 ∷ 1 ∷ []) (tagOf the-type x) → false ≡ isEnded x
+-- no status but `Idle` and `Voting`, variants 0 and 1, is that of a board that has not ended
+rest : (x : Status) → OneOf (2 ∷ 3 ∷ []) (tagOf the-type x) → true ≡ isEnded x
 unfolding isEnded
-rest Idle h = refl
-rest Voting h = refl
-rest Spent h = absurd (miss (0 ∷ 1 ∷ []) 2 tt h)
-rest (Decided d) h = absurd (miss (0 ∷ 1 ∷ []) 3 tt h)
+rest Idle h = absurd (miss (2 ∷ 3 ∷ []) 0 tt h)
+rest Voting h = absurd (miss (2 ∷ 3 ∷ []) 1 tt h)
+rest Spent h = refl
+rest (Decided d) h = refl
 
 enum-told : tie.Need-enum-told
 enum-told c = search needs
