@@ -2,16 +2,14 @@
 use Prim.Native.Nat.{ℕ, zero, suc, _≤_}
 use native.Mathlib.Omega.{arith}
 use native.Mathlib.Decide.{ℕ-discrete}
-use borrow.Author.Tests.{eqb-true, eqb-false, ne-eqb, le-leb, leb-true}
+use borrow.Author.Tests.{le-leb, leb-true}
 use mathlib.Core.Path.{_≡_, refl, sym, ap, _∙_}
 use mathlib.Core.Bool.{Bool, true, false, true≢false}
 use lib.Dec.{eqb, leb}
-use Rattle.signer.specs.Choice.{if_then_else_}
-use Rattle.signer.specs.Log.{values, valueOf, entryOf}
-use Rattle.signer.proofs.ChoiceLaws.{if-elim, if-true, if-false}
+use Rattle.signer.specs.Log.{values, valueOf}
+use Rattle.signer.proofs.ChoiceLaws.{if-elim, if-true}
 use Rattle.signer.proofs.LogLaws.{value-entry, value-within, entry-value}
 use Rattle.delivery.specs.Tests.{_and_, neg}
-use Rattle.delivery.specs.Counting.{countIn}
 use Rattle.delivery.specs.Limits.{Limits}
 use Rattle.delivery.specs.Bus.{quorum}
 use Rattle.delivery.specs.Rounds.{identifierOf}
@@ -79,18 +77,6 @@ found-some (suc n) f p w z x =
 
 module _ (L : Limits) (n : ℕ) (h : Store) (r : ℕ) where
   -- the opening's value, where it is not the blank, is that of the accepted opening
-  pub opened-within : openedValue L n h r ≤ values
-  unfolding openedValue
-  opened-within =
-      let x = sentOpening L n h r in
-      if-elim
-      (λ (w : ℕ). w ≤ values)
-      (acceptsOpening L n h r (valueOf x))
-      (valueOf x)
-      0
-      (λ e. value-within x)
-      (λ e. omega arith)
-
   pub opened-reads : (openedValue L n h r ≡ 0 → ⊥) → acceptsOpening L n h r (openedValue L n h r) ≡ true
   unfolding openedValue
   opened-reads =
@@ -102,6 +88,18 @@ module _ (L : Limits) (n : ℕ) (h : Store) (r : ℕ) where
       0
       (λ e z. e)
       (λ e z. absurd (z refl))
+
+  pub opened-within : openedValue L n h r ≤ values
+  unfolding openedValue
+  opened-within =
+      let x = sentOpening L n h r in
+      if-elim
+      (λ (w : ℕ). w ≤ values)
+      (acceptsOpening L n h r (valueOf x))
+      (valueOf x)
+      0
+      (λ e. value-within x)
+      (λ e. omega arith)
 
   pub reads-opened : (w : ℕ) → w ≤ values → acceptsOpening L n h r w ≡ true → openedValue L n h r ≡ w
   unfolding openedValue

@@ -1,9 +1,9 @@
 -- Laws of the calls that are no turn: a proposal, a delivery, a suspicion, an announcement. Assumes nothing.
-use Prim.Native.Nat.{ℕ, _≤_}
-use borrow.Author.Tests.{eq-eqb, eqb-false, ne-eqb, leb-true, le-leb}
+use Prim.Native.Nat.{ℕ}
+use borrow.Author.Tests.{eq-eqb, ne-eqb, leb-true, le-leb}
 use native.Mathlib.Decide.{ℕ-discrete}
-use mathlib.Core.Path.{_≡_, refl, sym, ap, _∙_}
-use mathlib.Core.Bool.{Bool, true, false}
+use mathlib.Core.Path.{_≡_, refl, ap}
+use mathlib.Core.Bool.{true, false}
 use mathlib.Core.Logic.{_⊎_, inl, inr}
 use lib.Dec.{eqb, leb}
 use Rattle.signer.proofs.ChoiceLaws.{if-true, if-false}
@@ -11,7 +11,7 @@ use Rattle.delivery.specs.Tests.{_and_, _or_, neg}
 use Rattle.delivery.specs.Limits.{Limits}
 use Rattle.delivery.specs.Bus.{quorum}
 use Rattle.delivery.specs.Delivered.{heard, deliver}
-use Rattle.delivery.specs.Sets.{inSet, withBoard, withoutBoard}
+use Rattle.delivery.specs.Sets.{withBoard, withoutBoard}
 use Rattle.delivery.specs.declared.delivered.Delivered.{Delivered}
 use Rattle.delivery.proofs.TestLaws.{and-left, and-right, and-in, or-left, or-right, or-no, neg-true, neg-in, decided}
 use Rattle.delivery.proofs.DeliveredLaws.{Whole, deliver-whole}
@@ -25,7 +25,6 @@ use Rattle.vote.specs.Announcements.{convinced, announce}
 use Rattle.vote.specs.declared.position.Stage.the-variants.{Open}
 use Rattle.vote.specs.declared.statement.Statement.{Statement}
 use Rattle.vote.specs.declared.board.Board.{Board}
-use Rattle.vote.specs.declared.board.Status.{Status}
 use Rattle.vote.specs.declared.board.Status.the-variants.{Voting, Decided}
 use Rattle.vote.proofs.BallotLaws.{tally-won}
 use Rattle.vote.proofs.TurnLaws.{placed}

@@ -2,7 +2,7 @@
 use Prim.Native.Nat.{ℕ, suc, _≤_, _<_}
 use native.Mathlib.Omega.{arith}
 use mathlib.Core.Path.{_≡_, refl, sym, ap, subst, subst⁻¹, _∙_}
-use mathlib.Core.Bool.{true, false, true≢false}
+use mathlib.Core.Bool.{true≢false}
 use mathlib.Core.List.{List, [], _∷_}
 use mathlib.Core.Logic.{_⊎_, inl, inr, ⊎-elim}
 use Rattle.delivery.specs.Limits.{Limits}
@@ -11,7 +11,6 @@ use Rattle.delivery.specs.Sets.{withBoard, withoutBoard}
 use Rattle.delivery.proofs.AgreementLaws.{Won}
 use Rattle.delivery.proofs.GrowthLaws.{Grows, won-grows}
 use Rattle.vote.specs.Boards.{freshBoard, isStarted, isDecided, isEnded, propose}
-use Rattle.vote.specs.Turns.{turn}
 use Rattle.vote.specs.Announcements.{announce}
 use Rattle.vote.specs.Calls.{Call, proposal, own-turn, delivery, suspicion, trusting, announcement, called, after, signedIn, put, statements}
 use Rattle.vote.specs.declared.statement.Statement.{Statement}
@@ -19,12 +18,11 @@ use Rattle.vote.specs.declared.statement.Said.{Said}
 use Rattle.vote.specs.declared.statement.Said.the-variants.{Nothing, One}
 use Rattle.vote.specs.declared.board.Board.{Board}
 use Rattle.vote.specs.declared.board.Decision.{Decision}
-use Rattle.vote.specs.declared.board.Status.{Status}
-use Rattle.vote.specs.declared.board.Status.the-variants.{Idle, Voting, Spent, Decided}
+use Rattle.vote.specs.declared.board.Status.the-variants.{Decided}
 use Rattle.vote.specs.declared.turn.Turn.{Turn}
 use Rattle.vote.proofs.StatusLaws.{started-decided, ended-decided, decided-decided, decided-one, voting-decided, spent-decided, idle-decided}
 use Rattle.vote.proofs.TurnLaws.{nothing-one, Course, not-taken, passed, opened, balloted, decided, advanced, expired, turn-course, turn-ended}
-use Rattle.vote.proofs.BoardLaws.{propose-started, propose-cases, hears-grows, deliver-hears, doubting, suspect-adds, trust-drops, Convinced, adopted, announce-cases}
+use Rattle.vote.proofs.BoardLaws.{propose-started, propose-cases, hears-grows, deliver-hears, doubting, suspect-adds, trust-drops, adopted, announce-cases}
 use Rattle.vote.proofs.SigningLaws.{due, due-started, due-same, due-idle, turn-due, signed-past, signs-due, turn-signs}
 use Rattle.vote.proofs.ProperLaws.{Proper, fresh-proper, voting-round, called-proper}
 

@@ -3,27 +3,26 @@
 use Prim.Native.Nat.{ℕ, suc, _≤_}
 use native.Mathlib.Omega.{arith}
 use mathlib.Core.Path.{_≡_, refl, sym, ap, subst⁻¹, _∙_}
-use mathlib.Core.Bool.{true, false, true≢false}
-use mathlib.Core.Logic.{_⊎_, inl, inr, ⊎-elim}
+use mathlib.Core.Bool.{true, true≢false}
+use mathlib.Core.Logic.{_⊎_, ⊎-elim}
 use Rattle.signer.proofs.FromOneLaws.{within-high, within-in}
 use Rattle.delivery.specs.Limits.{Limits}
 use Rattle.delivery.specs.Rounds.{isRound}
 use Rattle.delivery.specs.Delivered.{heard}
 use Rattle.delivery.specs.Sets.{withBoard, withoutBoard}
 use Rattle.delivery.specs.declared.delivered.Delivered.{Delivered}
-use Rattle.delivery.proofs.DeliveredLaws.{Whole, nothing-whole, deliver-whole}
-use Rattle.vote.specs.Boards.{freshPosition, freshBoard, isStarted, hears}
-use Rattle.vote.specs.Calls.{Call, proposal, own-turn, delivery, suspicion, trusting, announcement, called, after}
+use Rattle.delivery.proofs.DeliveredLaws.{Whole, nothing-whole}
+use Rattle.vote.specs.Boards.{freshBoard, isStarted}
+use Rattle.vote.specs.Calls.{Call, proposal, own-turn, delivery, suspicion, trusting, announcement, called}
 use Rattle.vote.specs.declared.position.Stage.{Stage}
 use Rattle.vote.specs.declared.position.Stage.the-variants.{Vote, Count}
-use Rattle.vote.specs.declared.statement.Statement.{Statement}
 use Rattle.vote.specs.declared.board.Board.{Board}
-use Rattle.vote.specs.declared.board.Status.the-variants.{Idle, Voting, Spent, Decided}
+use Rattle.vote.specs.declared.board.Status.the-variants.{Voting, Spent}
 use Rattle.vote.specs.declared.turn.Turn.{Turn}
 use Rattle.vote.proofs.StatusLaws.{started-voting, voting-spent, spent-decided, idle-spent, idle-unstarted}
 use Rattle.vote.proofs.RuleLaws.{Next, kept, taken}
 use Rattle.vote.proofs.TurnLaws.{placed, Course, not-taken, passed, opened, balloted, decided, advanced, expired, turn-course}
-use Rattle.vote.proofs.BoardLaws.{propose-cases, hears-whole, deliver-hears, doubting, suspect-adds, trust-drops, Convinced, adopted, announce-cases}
+use Rattle.vote.proofs.BoardLaws.{propose-cases, hears-whole, deliver-hears, doubting, suspect-adds, trust-drops, announce-cases}
 
 pub record Proper (L : Limits) (b : Board) : Type 0 where
   pub whole : Whole L (b .delivered)

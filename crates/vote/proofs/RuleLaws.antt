@@ -18,11 +18,11 @@ use Rattle.delivery.specs.Rounds.{coordinator}
 use Rattle.delivery.specs.Sets.{inSet}
 use Rattle.delivery.specs.Delivered.{Store}
 use Rattle.delivery.specs.Acceptance.{acceptsOpening, acceptsSome}
-use Rattle.delivery.proofs.TestLaws.{and-left, and-right, and-in, and-no-left, and-yes-left, neg-no, or-cases, or-left, or-right, or-no-left, decided}
+use Rattle.delivery.proofs.TestLaws.{and-left, and-right, and-no-left, and-yes-left, neg-no, or-cases, or-left, or-right, or-no-left, decided}
 use Rattle.delivery.proofs.CountLaws.{every-reads, reads-every}
 use Rattle.delivery.proofs.OneRoundLaws.{value-some}
 use Rattle.delivery.proofs.AgreementLaws.{Won}
-use Rattle.vote.specs.Ballots.{sentOpening, openedValue, valueWith}
+use Rattle.vote.specs.Ballots.{sentOpening, openedValue}
 use Rattle.vote.specs.Rule.{openMove, mayVote, voteMove, mayCount, chosen, carried, nextEstimate, onward, countMove, moveAt, rule}
 use Rattle.vote.specs.declared.position.Position.{Position}
 use Rattle.vote.specs.declared.position.Stage.{Stage}
@@ -74,16 +74,6 @@ module _ (L : Limits) (n : ℕ) (p : Position) (h : Store) where
   abbrev present : ℕ → Bool
   present s = acceptsSome L n h r s or inSet (p .suspected) s
 
-  pub count-few : countIn n (acceptsSome L n h r) < quorum n → mayCount L n p h ≡ false
-  unfolding mayCount
-  count-few l =
-      and-no-left (leb (quorum n) (countIn n (acceptsSome L n h r))) (everyIn n present) (lt-leb (quorum n) (countIn n (acceptsSome L n h r)) l)
-
-  pub count-enough : quorum n ≤ countIn n (acceptsSome L n h r) → mayCount L n p h ≡ everyIn n (λ (s : ℕ). acceptsSome L n h r s or inSet (p .suspected) s)
-  unfolding mayCount
-  count-enough l =
-      and-yes-left (leb (quorum n) (countIn n (acceptsSome L n h r))) (everyIn n present) (le-leb (quorum n) (countIn n (acceptsSome L n h r)) l)
-
   pub record MayCount : Type 0 where
     pub enough : quorum n ≤ countIn n (acceptsSome L n h r)
     pub rest : (s : ℕ) → 1 ≤ s → s ≤ n → (acceptsSome L n h r s ≡ true) ⊎ (inSet (p .suspected) s ≡ true)
@@ -98,6 +88,16 @@ module _ (L : Limits) (n : ℕ) (p : Position) (h : Store) where
             λ s l u.
             or-cases (acceptsSome L n h r s) (inSet (p .suspected) s) (every-reads n present (and-right a (everyIn n present) t) s l u);
       }
+
+  pub count-few : countIn n (acceptsSome L n h r) < quorum n → mayCount L n p h ≡ false
+  unfolding mayCount
+  count-few l =
+      and-no-left (leb (quorum n) (countIn n (acceptsSome L n h r))) (everyIn n present) (lt-leb (quorum n) (countIn n (acceptsSome L n h r)) l)
+
+  pub count-enough : quorum n ≤ countIn n (acceptsSome L n h r) → mayCount L n p h ≡ everyIn n (λ (s : ℕ). acceptsSome L n h r s or inSet (p .suspected) s)
+  unfolding mayCount
+  count-enough l =
+      and-yes-left (leb (quorum n) (countIn n (acceptsSome L n h r))) (everyIn n present) (le-leb (quorum n) (countIn n (acceptsSome L n h r)) l)
 
   pub reads-count : MayCount → mayCount L n p h ≡ true
   reads-count m =

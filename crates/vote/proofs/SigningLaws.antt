@@ -3,7 +3,7 @@ use Prim.Native.Nat.{ℕ, suc, _≤_, _<_}
 use native.Mathlib.Omega.{arith}
 use native.Mathlib.Nat.{le-of-lt}
 use mathlib.Core.Path.{_≡_, refl, sym, ap, subst, _∙_}
-use mathlib.Core.Bool.{Bool, true, false, true≢false}
+use mathlib.Core.Bool.{true, false, true≢false}
 use Rattle.signer.proofs.FromOneLaws.{within-in}
 use Rattle.delivery.specs.Limits.{Limits}
 use Rattle.delivery.specs.Rounds.{isRound, coordinator, identifierOf}

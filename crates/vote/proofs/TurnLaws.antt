@@ -2,7 +2,7 @@
 use Prim.Native.Nat.{ℕ, suc, _≤_, _<_}
 use mathlib.Core.Path.{_≡_, refl, sym, ap, subst⁻¹, _∙_}
 use mathlib.Core.Bool.{Bool, true, false, true≢false}
-use mathlib.Core.Logic.{_⊎_, inl, inr}
+use mathlib.Core.Logic.{_⊎_, inl}
 use Rattle.delivery.specs.Limits.{Limits}
 use Rattle.delivery.specs.Rounds.{coordinator, nextRound, identifierOf}
 use Rattle.delivery.specs.Delivered.{Store, heard}
@@ -25,14 +25,13 @@ use Rattle.vote.specs.declared.statement.Statement.{Statement}
 use Rattle.vote.specs.declared.statement.Said.{Said}
 use Rattle.vote.specs.declared.statement.Said.the-variants.{Nothing, One}
 use Rattle.vote.specs.declared.board.Board.{Board}
-use Rattle.vote.specs.declared.board.Decision.{Decision}
 use Rattle.vote.specs.declared.board.Status.{Status}
 use Rattle.vote.specs.declared.board.Status.the-variants.{Idle, Voting, Spent, Decided}
 use Rattle.vote.specs.declared.turn.Answer.{Answer}
 use Rattle.vote.specs.declared.turn.Answer.the-variants.{Done, NotStarted, Ended, Waiting}
 use Rattle.vote.specs.declared.turn.Turn.{Turn}
 use Rattle.vote.proofs.StatusLaws.{ended-spent, ended-decided}
-use Rattle.vote.proofs.RuleLaws.{MayCount, Next, Acts, awaits-opening, awaits-ballots, passes, opens, ballots, decides, advances, expires, rule-acts, next-origin}
+use Rattle.vote.proofs.RuleLaws.{MayCount, Next, Acts, passes, opens, ballots, decides, advances, expires, rule-acts, next-origin}
 
 -- something said is not nothing, and is one statement
 speaks : Said → Bool

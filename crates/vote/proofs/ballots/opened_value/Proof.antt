@@ -1,5 +1,4 @@
 -- `ballots::opened_value` meets its contract. Assumes nothing.
-use Prim.Native.Nat.{ℕ}
 use borrow.Author.Needs.{needs}
 use mathlib.Core.Path.{_≡_, sym, ap, _∙_}
 use Rattle.signer.specs.Log.{valueOf}

@@ -9,7 +9,7 @@ use Rattle.delivery.specs.Tests.{_or_}
 use Rattle.delivery.specs.Counting.{countIn}
 use Rattle.delivery.specs.Limits.{limits}
 use Rattle.delivery.specs.Bus.{quorum}
-use Rattle.delivery.specs.Sets.{inSet, setOf, bits}
+use Rattle.delivery.specs.Sets.{inSet, bits}
 use Rattle.delivery.specs.Delivered.{heard}
 use Rattle.delivery.specs.Acceptance.{acceptsSome}
 use Rattle.delivery.proofs.CountLaws.{count-cong, every-counted}

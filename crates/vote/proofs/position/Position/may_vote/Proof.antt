@@ -1,5 +1,6 @@
 -- `Position::may_vote` meets its contract. Assumes nothing.
 use borrow.Author.Needs.{needs}
+use native.Mathlib.Omega.{arith}
 use mathlib.Core.Path.{sym, _∙_}
 use Rattle.vote.proofs.RuleLaws.{sent-votes, unsent-votes}
 use Rattle.vote.proofs.position.Position.may_vote.Statement.{statement}
@@ -9,7 +10,7 @@ opening-requires : tie.Need-opening-requires
 opening-requires c κs = search needs
 
 returns : tie.Need-returns
-returns c = sym (sent-votes _ _ _ _ (λ z. c .if1 .taken (c .before .opening .ensures ∙ z)))
+returns c = sym (sent-votes _ _ _ _ (λ z. omega (arith, c .if1 .taken, c .before .opening .ensures, z)))
 
 coordinator-requires : tie.Need-coordinator-requires
 coordinator-requires c κs = search needs

@@ -1,5 +1,4 @@
 -- `Position::next_estimate` meets its contract. Assumes nothing.
-use Prim.Native.Nat.{ℕ}
 use borrow.Author.Needs.{needs}
 use mathlib.Core.Path.{_≡_, sym, ap, _∙_}
 use Rattle.delivery.specs.Limits.{limits}
