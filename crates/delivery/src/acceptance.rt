@@ -133,7 +133,7 @@ impl Delivered {
         while r < last {
             let earlier = Round(r);
             let opening = opened(allowance, self.opening(n, earlier));
-            let blank = self.tally(n, earlier, Log::entry_of(0));
+            let blank = self.tally(n, earlier, Log::entry_of(Log::BLANK));
             let backing = self.tally(n, earlier, opening);
             allowance = settled(q, e, blank, backing, allowance, opening);
             r += 1;
@@ -170,7 +170,7 @@ impl Delivered {
         if entry != Log::entry_of(value) {
             return false;
         }
-        if value == 0 {
+        if value == Log::BLANK {
             return true;
         }
         self.accepts_opening(n, round, value)
@@ -181,7 +181,7 @@ impl Delivered {
         ensures { λ r. ⌜ r ≡ setOf n (λ (s : ℕ). acceptsBallot limits n (heard limits self) (round .0) s value) ⌝ }
     {
         let speakers = self.bearing(n, round, Log::entry_of(value));
-        if value == 0 {
+        if value == Log::BLANK {
             return speakers;
         }
         if self.accepts_opening(n, round, value) {
@@ -194,7 +194,7 @@ impl Delivered {
     pub fn ballots(self, n: u8, round: Round) -> u16
         ensures { λ r. ⌜ r ≡ setOf n (acceptsSome limits n (heard limits self) (round .0)) ⌝ }
     {
-        let blank = self.bearing(n, round, Log::entry_of(0));
+        let blank = self.bearing(n, round, Log::entry_of(Log::BLANK));
         let opening = self.opening(n, round);
         if !self.allows(n, round, opening) {
             return blank;

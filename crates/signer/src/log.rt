@@ -8,8 +8,11 @@ pub struct Log {
 }
 
 impl Log {
-    // The highest value; the lowest is 1, and 0 is the blank.
+    // The highest value; the lowest is 1.
     pub const VALUES: u16 = 65535;
+
+    // What is said instead of a value; ⊥ in the published vote.
+    pub const BLANK: u16 = 0;
 
     pub fn empty() -> Log
         ensures { λ r. ⌜ r ≡ emptyLog identifiers ⌝ }
@@ -31,10 +34,10 @@ impl Log {
         ensures { λ r. ⌜ r ≡ valueOf entry ⌝ }
     {
         if entry == 0 {
-            return 0;
+            return Log::BLANK;
         }
         if entry - 1 > Log::VALUES as u32 {
-            return 0;
+            return Log::BLANK;
         }
         (entry - 1) as u16
     }

@@ -22,7 +22,7 @@ pub fn opened_value(delivered: Delivered, n: u8, round: Round) -> u16
     if delivered.accepts_opening(n, round, value) {
         return value;
     }
-    0
+    Log::BLANK
 }
 
 // The value that so many accepted ballots of a round bear, or more; the blank where there is none. Only the
@@ -31,15 +31,15 @@ pub fn value_with(delivered: Delivered, n: u8, round: Round, least: u8) -> u16
     ensures { λ r. ⌜ r ≡ valueWith limits n (heard limits delivered) (round .0) least ⌝ }
 {
     let value = opened_value(delivered, n, round);
-    if value == 0 {
-        return 0;
+    if value == Log::BLANK {
+        return Log::BLANK;
     }
     let backing = tally(delivered, n, round, value);
     if backing == 0 {
-        return 0;
+        return Log::BLANK;
     }
     if backing < least {
-        return 0;
+        return Log::BLANK;
     }
     value
 }

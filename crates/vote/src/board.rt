@@ -12,6 +12,7 @@ use delivery::Delivered;
 use delivery::Round;
 use delivery::bus;
 use delivery::set;
+use signer::Log;
 
 // What a board decided, and in which round.
 pub struct Decision {
@@ -129,7 +130,7 @@ impl Board {
         if self.is_started() {
             return self;
         }
-        if value == 0 {
+        if value == Log::BLANK {
             return self;
         }
         let position = self.position.starting_with(value);
@@ -187,7 +188,7 @@ impl Board {
         if self.is_decided() {
             return self;
         }
-        if value == 0 {
+        if value == Log::BLANK {
             return self;
         }
         if self.tally(n, round, value) < bus::quorum(n) {

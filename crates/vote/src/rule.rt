@@ -9,6 +9,7 @@ use delivery::Delivered;
 use delivery::Round;
 use delivery::bus;
 use delivery::set;
+use signer::Log;
 
 // What a board does in a turn.
 pub enum Move {
@@ -69,7 +70,7 @@ impl Position {
         ensures { λ r. ⌜ r ≡ nextEstimate limits n self (heard limits delivered) ⌝ }
     {
         let carried = ballots::value_with(delivered, n, self.round, bus::overlap(n));
-        if carried == 0 {
+        if carried == Log::BLANK {
             return self.estimate;
         }
         carried
@@ -95,7 +96,7 @@ impl Position {
             return Move::Waits;
         }
         let chosen = ballots::value_with(delivered, n, self.round, bus::quorum(n));
-        if chosen == 0 {
+        if chosen == Log::BLANK {
             return self.onward(n, delivered);
         }
         Move::Decides(chosen)
