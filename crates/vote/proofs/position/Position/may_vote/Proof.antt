@@ -21,7 +21,10 @@ has-requires c κs = search needs
 returns-2 : tie.Need-returns-2
 returns-2 c =
     let k = c .before in
-    rw (c .has .ensures, k .coordinator .ensures) (sym (unsent-votes _ _ _ _ (sym (k .before .before .opening .ensures) ∙ k .before .if1 .left)))
+    let o = k .before .before in
+    rw
+    (c .has .ensures, k .coordinator .ensures)
+    (sym (unsent-votes _ _ _ _ (omega (arith, o .opening .ensures, k .before .if1 .left))))
 
 pub may-vote-spec : {M : Type 1} → statement M
 may-vote-spec = tie.close (tie.spec opening-requires returns coordinator-requires has-requires returns-2)
