@@ -1,7 +1,7 @@
 -- `Position::may_vote` meets its contract. Assumes nothing.
 use borrow.Author.Needs.{needs}
 use native.Mathlib.Omega.{arith}
-use mathlib.Core.Path.{sym, _∙_}
+use mathlib.Core.Path.{sym}
 use Rattle.vote.proofs.RuleLaws.{sent-votes, unsent-votes}
 use Rattle.vote.proofs.position.Position.may_vote.Statement.{statement}
 use Rattle.vote.proofs.position.Position.may_vote.Tie as tie
