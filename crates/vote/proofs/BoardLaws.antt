@@ -75,29 +75,21 @@ unfolding deliverTo
 deliver-hears L b s = refl
 
 -- a suspicion, or trust, changes the set of the suspected alone, and a second time it changes nothing
-abbrev pub doubting : Board → ℕ → Board
-doubting b m =
-    record {
-      position = record { round = b .position .round; estimate = b .position .estimate; stage = b .position .stage; suspected = m };
-      delivered = b .delivered;
-      status = b .status;
-    }
-
-pub suspect-adds : (b : Board) (k : ℕ) → suspect b k ≡ doubting b (withBoard (b .position .suspected) k)
-unfolding suspect suspecting
+pub suspect-adds : (b : Board) (k : ℕ) → suspect b k ≡ suspecting b (withBoard (b .position .suspected) k)
+unfolding suspect
 suspect-adds b k = refl
 
-pub trust-drops : (b : Board) (k : ℕ) → trust b k ≡ doubting b (withoutBoard (b .position .suspected) k)
-unfolding trust suspecting
+pub trust-drops : (b : Board) (k : ℕ) → trust b k ≡ suspecting b (withoutBoard (b .position .suspected) k)
+unfolding trust
 trust-drops b k = refl
 
 pub suspect-twice : (b : Board) (k : ℕ) → suspect (suspect b k) k ≡ suspect b k
-unfolding suspect suspecting
-suspect-twice b k = ap (doubting b) (with-twice (b .position .suspected) k)
+unfolding suspect
+suspect-twice b k = ap (suspecting b) (with-twice (b .position .suspected) k)
 
 pub trust-twice : (b : Board) (k : ℕ) → trust (trust b k) k ≡ trust b k
-unfolding trust suspecting
-trust-twice b k = ap (doubting b) (without-twice (b .position .suspected) k)
+unfolding trust
+trust-twice b k = ap (suspecting b) (without-twice (b .position .suspected) k)
 
 -- an announcement, read both ways: what convinces a board, and what then comes of it
 module _ (L : Limits) (n : ℕ) (b : Board) (r v : ℕ) where

@@ -10,7 +10,7 @@ use Rattle.delivery.specs.Delivered.{Store, heard}
 use Rattle.delivery.specs.Sets.{withBoard, withoutBoard}
 use Rattle.delivery.proofs.AgreementLaws.{Won}
 use Rattle.delivery.proofs.GrowthLaws.{Grows, won-grows}
-use Rattle.vote.specs.Boards.{freshBoard, isStarted, isDecided, isEnded, propose}
+use Rattle.vote.specs.Boards.{freshBoard, isStarted, isDecided, isEnded, propose, suspecting}
 use Rattle.vote.specs.Announcements.{announce}
 use Rattle.vote.specs.Calls.{Call, proposal, own-turn, delivery, suspicion, trusting, announcement, called, after, signedIn, put, statements}
 use Rattle.vote.specs.declared.statement.Statement.{Statement}
@@ -22,7 +22,7 @@ use Rattle.vote.specs.declared.board.Status.the-variants.{Decided}
 use Rattle.vote.specs.declared.turn.Turn.{Turn}
 use Rattle.vote.proofs.StatusLaws.{started-decided, ended-decided, decided-decided, decided-one, voting-decided, spent-decided, idle-decided}
 use Rattle.vote.proofs.TurnLaws.{nothing-one, Course, not-taken, passed, opened, balloted, decided, advanced, expired, turn-course, turn-ended}
-use Rattle.vote.proofs.BoardLaws.{propose-started, propose-cases, hears-grows, deliver-hears, doubting, suspect-adds, trust-drops, adopted, announce-cases}
+use Rattle.vote.proofs.BoardLaws.{propose-started, propose-cases, hears-grows, deliver-hears, suspect-adds, trust-drops, adopted, announce-cases}
 use Rattle.vote.proofs.SigningLaws.{due, due-started, due-same, due-idle, turn-due, signed-past, signs-due, turn-signs}
 use Rattle.vote.proofs.ProperLaws.{Proper, fresh-proper, voting-round, called-proper}
 
@@ -192,8 +192,8 @@ module _ (L : Limits) (n me : ℕ) (b : Board) (p : Proper L b) where
       (propose-cases b v)
   called-due own-turn = turn-due L n me b (voting-round L b p)
   called-due (delivery s) = rw (deliver-hears L b s) (omega arith)
-  called-due (suspicion k) = rw (suspect-adds b k, due-same L (doubting b (withBoard (b .position .suspected) k) .position) (b .position) (b .status) refl refl) (omega arith)
-  called-due (trusting k) = rw (trust-drops b k, due-same L (doubting b (withoutBoard (b .position .suspected) k) .position) (b .position) (b .status) refl refl) (omega arith)
+  called-due (suspicion k) = rw (suspect-adds b k, due-same L (suspecting b (withBoard (b .position .suspected) k) .position) (b .position) (b .status) refl refl) (omega arith)
+  called-due (trusting k) = rw (trust-drops b k, due-same L (suspecting b (withoutBoard (b .position .suspected) k) .position) (b .position) (b .status) refl refl) (omega arith)
   called-due (announcement r v) =
       ⊎-elim
       (λ (e : announce L n b r v ≡ b). rw e (omega arith))

@@ -12,7 +12,7 @@ use Rattle.delivery.specs.Delivered.{heard}
 use Rattle.delivery.specs.Sets.{withBoard, withoutBoard}
 use Rattle.delivery.specs.declared.delivered.Delivered.{Delivered}
 use Rattle.delivery.proofs.DeliveredLaws.{Whole, nothing-whole}
-use Rattle.vote.specs.Boards.{freshBoard, isStarted}
+use Rattle.vote.specs.Boards.{freshBoard, isStarted, suspecting}
 use Rattle.vote.specs.Calls.{Call, proposal, own-turn, delivery, suspicion, trusting, announcement, called}
 use Rattle.vote.specs.declared.position.Stage.{Stage}
 use Rattle.vote.specs.declared.position.Stage.the-variants.{Vote, Count}
@@ -22,7 +22,7 @@ use Rattle.vote.specs.declared.turn.Turn.{Turn}
 use Rattle.vote.proofs.StatusLaws.{started-voting, voting-spent, spent-decided, idle-spent, idle-unstarted}
 use Rattle.vote.proofs.RuleLaws.{Next, kept, taken}
 use Rattle.vote.proofs.TurnLaws.{placed, Course, not-taken, passed, opened, balloted, decided, advanced, expired, turn-course}
-use Rattle.vote.proofs.BoardLaws.{propose-cases, hears-whole, deliver-hears, doubting, suspect-adds, trust-drops, announce-cases}
+use Rattle.vote.proofs.BoardLaws.{propose-cases, hears-whole, deliver-hears, suspect-adds, trust-drops, announce-cases}
 
 pub record Proper (L : Limits) (b : Board) : Type 0 where
   pub whole : Whole L (b .delivered)
@@ -58,17 +58,19 @@ module _ (L : Limits) (b : Board) (p : Proper L b) where
   same-round g d v w =
       record { whole = w; round = λ s. voting-round v; estimate = λ s. voting-estimate v; spent = λ s. absurd (voting-spent s) }
 
+  comes : (t u : Turn) → t ≡ u → Proper L (u .board) → Proper L (t .board)
+  comes t u e = subst⁻¹ (λ (x : Turn). Proper L (x .board)) e
+
   course-proper : (n me : ℕ) (t : Turn) → Course L n me b t → Proper L (t .board)
-  course-proper n me t (not-taken a f e) = subst⁻¹ (Proper L) (ap (λ (u : Turn). u .board) e) p
-  course-proper n me t (passed v g f e) = subst⁻¹ (Proper L) (ap (λ (u : Turn). u .board) e) (same-round Vote (b .delivered) v (p .whole))
-  course-proper n me t (opened v g c e) =
-      subst⁻¹ (Proper L) (ap (λ (u : Turn). u .board) e) (same-round Vote _ v (hears-whole L (b .delivered) _ (p .whole)))
-  course-proper n me t (balloted v g y e) =
-      subst⁻¹ (Proper L) (ap (λ (u : Turn). u .board) e) (same-round Count _ v (hears-whole L (b .delivered) _ (p .whole)))
+  course-proper n me t (not-taken a f e) = comes t _ e p
+  course-proper n me t (passed v g f e) = comes t _ e (same-round Vote (b .delivered) v (p .whole))
+  course-proper n me t (opened v g c e) = comes t _ e (same-round Vote _ v (hears-whole L (b .delivered) _ (p .whole)))
+  course-proper n me t (balloted v g y e) = comes t _ e (same-round Count _ v (hears-whole L (b .delivered) _ (p .whole)))
   course-proper n me t (decided w v g m o e) =
-      subst⁻¹
-      (Proper L)
-      (ap (λ (u : Turn). u .board) e)
+      comes
+      t
+      _
+      e
       (record {
         whole = p .whole;
         round = λ s. voting-round v;
@@ -76,9 +78,10 @@ module _ (L : Limits) (b : Board) (p : Proper L b) where
         spent = λ s. absurd (spent-decided _ (sym s));
       })
   course-proper n me t (advanced w v g m z l x e) =
-      subst⁻¹
-      (Proper L)
-      (ap (λ (u : Turn). u .board) e)
+      comes
+      t
+      _
+      e
       (record {
         whole = p .whole;
         round = λ s. within-in (L .rounds) (suc (b .position .round .0)) (omega arith) l;
@@ -86,9 +89,10 @@ module _ (L : Limits) (b : Board) (p : Proper L b) where
         spent = λ s. absurd (voting-spent s);
       })
   course-proper n me t (expired w v g m z l x e) =
-      subst⁻¹
-      (Proper L)
-      (ap (λ (u : Turn). u .board) e)
+      comes
+      t
+      _
+      e
       (record {
         whole = p .whole;
         round = λ s. voting-round v;
@@ -96,8 +100,8 @@ module _ (L : Limits) (b : Board) (p : Proper L b) where
         spent = λ s. (refl, omega (arith, l, within-high (L .rounds) (b .position .round .0) (voting-round v)));
       })
 
-  doubting-proper : (m : ℕ) → Proper L (doubting b m)
-  doubting-proper m = record { whole = p .whole; round = p .round; estimate = p .estimate; spent = p .spent }
+  suspecting-proper : (m : ℕ) → Proper L (suspecting b m)
+  suspecting-proper m = record { whole = p .whole; round = p .round; estimate = p .estimate; spent = p .spent }
 
   -- every call keeps it, where there is a round at all
   pub called-proper : (n me : ℕ) → 1 ≤ L .rounds → (c : Call) → Proper L (called L n me b c)
@@ -122,8 +126,8 @@ module _ (L : Limits) (b : Board) (p : Proper L b) where
       (Proper L)
       (deliver-hears L b s)
       (record { whole = hears-whole L (b .delivered) s (p .whole); round = p .round; estimate = p .estimate; spent = p .spent })
-  called-proper n me some (suspicion k) = subst⁻¹ (Proper L) (suspect-adds b k) (doubting-proper (withBoard (b .position .suspected) k))
-  called-proper n me some (trusting k) = subst⁻¹ (Proper L) (trust-drops b k) (doubting-proper (withoutBoard (b .position .suspected) k))
+  called-proper n me some (suspicion k) = subst⁻¹ (Proper L) (suspect-adds b k) (suspecting-proper (withBoard (b .position .suspected) k))
+  called-proper n me some (trusting k) = subst⁻¹ (Proper L) (trust-drops b k) (suspecting-proper (withoutBoard (b .position .suspected) k))
   called-proper n me some (announcement r v) =
       ⊎-elim
       (λ e. subst⁻¹ (Proper L) e p)

@@ -75,7 +75,7 @@ unfoldable pub deliverTo : Limits → Board → Statement → Board
 deliverTo L b s = record { position = b .position; delivered = hears L (b .delivered) s; status = b .status }
 
 -- board k is suspected from now on, or no longer; nothing else changes
-unfoldable pub suspecting : Board → ℕ → Board
+abbrev pub suspecting : Board → ℕ → Board
 suspecting b m =
     record {
       position =

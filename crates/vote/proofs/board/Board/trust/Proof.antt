@@ -1,6 +1,6 @@
 -- `Board::trust` meets its contract. Assumes nothing.
 use borrow.Author.Needs.{needs}
-use Rattle.vote.specs.Boards.{suspecting, trust}
+use Rattle.vote.specs.Boards.{trust}
 use Rattle.vote.proofs.board.Board.trust.Statement.{statement}
 use Rattle.vote.proofs.board.Board.trust.Tie as tie
 
@@ -8,7 +8,7 @@ without-requires : tie.Need-without-requires
 without-requires c κs = search needs
 
 returns : tie.Need-returns
-unfolding suspecting trust
+unfolding trust
 returns c = rw (c .before .without .ensures)
 
 pub trust-spec : {M : Type 1} → statement M
