@@ -2,7 +2,7 @@
 -- too. Assumes nothing.
 use Prim.Native.Nat.{ℕ, zero, suc, _≤_}
 use native.Mathlib.Omega.{arith}
-use mathlib.Core.Path.{_≡_, sym, ap, _∙_}
+use mathlib.Core.Path.{_≡_, refl, sym, ap, _∙_}
 use mathlib.Core.Bool.{Bool, true}
 use mathlib.Core.Logic.{inl, inr, ⊎-elim}
 use mathlib.Core.List.{List}
@@ -26,6 +26,14 @@ use Rattle.delivery.proofs.AgreementLaws.{Won}
 -- what stands in h stands in h′ too
 pub record Grows (h h′ : Store) : Type 0 where
   pub keeps : (s i : ℕ) → (h s i ≡ 0 → ⊥) → h′ s i ≡ h s i
+
+-- as a store stands it grows, and so it does step by step
+pub grows-same : (h : Store) → Grows h h
+grows-same h = record { keeps = λ s i f. refl }
+
+pub grows-on : (h h′ h″ : Store) → Grows h h′ → Grows h′ h″ → Grows h h″
+grows-on h h′ h″ g k =
+    record { keeps = λ s i f. k .keeps s i (λ z. f (sym (g .keeps s i f) ∙ z)) ∙ g .keeps s i f }
 
 -- one statement more: what was there is there
 pub deliver-grows : (L : Limits) (d : Delivered) (s i v : ℕ) → Grows (heard L d) (heard L (deliver L d s i v))

@@ -2,8 +2,9 @@
 use Prim.Native.Nat.{ℕ, suc, _≤_, _<_}
 use native.Mathlib.Omega.{arith}
 use native.Mathlib.Decide.{decLt}
-use mathlib.Core.Path.{_≡_, refl, sym, ap, subst⁻¹, _∙_}
+use mathlib.Core.Path.{_≡_, sym, ap, subst⁻¹, _∙_}
 use mathlib.Core.Bool.{true, true≢false}
+use mathlib.Core.List.{List, [], _∷_}
 use mathlib.Core.Logic.{⊎-elim}
 use Rattle.signer.specs.Log.{values, entryOf}
 use Rattle.signer.proofs.FromOneLaws.{within-low}
@@ -17,11 +18,11 @@ use Rattle.delivery.proofs.DeliveredLaws.{heard-nothing, deliver-only}
 use Rattle.delivery.proofs.OneRoundLaws.{value-some}
 use Rattle.delivery.proofs.AllRoundsLaws.{allowed-first, opening-reads}
 use Rattle.delivery.proofs.AllowanceLaws.{borne-next, kept-next}
-use Rattle.delivery.proofs.GrowthLaws.{Grows, allowed-grows}
+use Rattle.delivery.proofs.GrowthLaws.{Grows, grows-same, allowed-grows}
 use Rattle.vote.specs.Ballots.{sentOpening, tally}
 use Rattle.vote.specs.Boards.{freshPosition, freshBoard, isStarted, hears}
 use Rattle.vote.specs.Rule.{carried}
-use Rattle.vote.specs.Calls.{Call, proposal, own-turn, delivery, suspicion, trusting, announcement, called}
+use Rattle.vote.specs.Calls.{Call, proposal, own-turn, delivery, suspicion, trusting, announcement, called, after}
 use Rattle.vote.specs.declared.position.Position.{Position}
 use Rattle.vote.specs.declared.position.Stage.{Stage}
 use Rattle.vote.specs.declared.position.Stage.the-variants.{Vote, Count}
@@ -33,9 +34,9 @@ use Rattle.vote.specs.declared.turn.Turn.{Turn}
 use Rattle.vote.proofs.StatusLaws.{idle-unstarted, started-voting}
 use Rattle.vote.proofs.BallotLaws.{Backed, opened-within, backed-opened, reads-with}
 use Rattle.vote.proofs.RuleLaws.{MayCount, Next, kept, taken}
-use Rattle.vote.proofs.TurnLaws.{Course, not-taken, passed, opened, balloted, decided, advanced, expired, turn-course}
+use Rattle.vote.proofs.TurnLaws.{turned, Course, not-taken, passed, opened, balloted, decided, advanced, expired, turn-course}
 use Rattle.vote.proofs.BoardLaws.{propose-cases, hears-grows, deliver-hears, suspect-adds, trust-drops, announce-cases}
-use Rattle.vote.proofs.ProperLaws.{Proper, voting-round}
+use Rattle.vote.proofs.ProperLaws.{Proper, voting-round, called-proper}
 
 -- a round whose opening, as it was sent, is that of a value
 module _ (L : Limits) (n : ℕ) (p : Position) (h : Store) (l : sentOpening L n h (p .round .0) ≤ entryOf values) where
@@ -129,7 +130,7 @@ module _ (L : Limits) (n me : ℕ) (b : Board) (some : 1 ≤ n) (p : Proper L b)
   -- nothing more
   stays : (g : Stage) (m : ℕ) (t : Status) → (isStarted t ≡ true → isStarted (b .status) ≡ true)
       → Admitted L n (staying (b .delivered) g m t)
-  stays g m t f = remains (b .delivered) g m t (a .plain) (record { keeps = λ s i z. refl }) f
+  stays g m t f = remains (b .delivered) g m t (a .plain) (grows-same store) f
 
   -- one statement more
   listens : (s : Statement) → s .value ≤ values → (g : Stage) (t : Status) → (isStarted t ≡ true → isStarted (b .status) ≡ true)
@@ -153,22 +154,19 @@ module _ (L : Limits) (n me : ℕ) (b : Board) (some : 1 ≤ n) (p : Proper L b)
   voting : b .status ≡ Voting → isStarted (b .status) ≡ true
   voting v = ap isStarted v ∙ started-voting
 
-  -- what a turn comes to
-  comes : (t u : Turn) → t ≡ u → Admitted L n (u .board) → Admitted L n (t .board)
-  comes t u e = subst⁻¹ (λ (x : Turn). Admitted L n (x .board)) e
-
   -- every turn keeps it
   course-admitted : (t : Turn) → Course L n me b t → Admitted L n (t .board)
-  course-admitted t (not-taken x f e) = comes t _ e a
-  course-admitted t (passed v g f e) = comes t _ e (stays Vote (b .position .suspected) Voting (λ s. voting v))
-  course-admitted t (opened v g c e) = comes t _ e (listens _ (a .value) Vote Voting (λ s. voting v))
+  course-admitted t (not-taken x f e) = turned (Admitted L n) t _ e a
+  course-admitted t (passed v g f e) = turned (Admitted L n) t _ e (stays Vote (b .position .suspected) Voting (λ s. voting v))
+  course-admitted t (opened v g c e) = turned (Admitted L n) t _ e (listens _ (a .value) Vote Voting (λ s. voting v))
   course-admitted t (balloted v g y e) =
-      comes t _ e (listens _ (opened-within L n store (b .position .round .0)) Count Voting (λ s. voting v))
+      turned (Admitted L n) t _ e (listens _ (opened-within L n store (b .position .round .0)) Count Voting (λ s. voting v))
   course-admitted t (decided w v g m o e) =
-      comes t _ e (stays (b .position .stage) (b .position .suspected) _ (λ s. voting v))
+      turned (Admitted L n) t _ e (stays (b .position .stage) (b .position .suspected) _ (λ s. voting v))
   course-admitted t (advanced w v g m z l x e) =
       let low = within-low (L .rounds) (b .position .round .0) (voting-round L b p v) in
-      comes
+      turned
+      (Admitted L n)
       t
       _
       e
@@ -178,7 +176,8 @@ module _ (L : Limits) (n me : ℕ) (b : Board) (some : 1 ≤ n) (p : Proper L b)
         permitted = λ s. next-allowed L n (b .position) store w some low (a .plain _ _) m x (a .permitted (voting v));
       })
   course-admitted t (expired w v g m z l x e) =
-      comes
+      turned
+      (Admitted L n)
       t
       _
       e
@@ -209,3 +208,25 @@ module _ (L : Limits) (n me : ℕ) (b : Board) (some : 1 ≤ n) (p : Proper L b)
       (λ e. subst⁻¹ (Admitted L n) e a)
       (λ x. subst⁻¹ (Admitted L n) (x .1) (stays (b .position .stage) (b .position .suspected) _ (λ s. x .0 .started)))
       (announce-cases L n b r v)
+
+-- so does every list of calls that fit, from a fresh board on
+pub data EachFits : List Call → Type 0 where
+  none-left : EachFits []
+  fits-first : (c : Call) (cs : List Call) → Fits c → EachFits cs → EachFits (c ∷ cs)
+
+pub after-admitted : (L : Limits) (n me : ℕ) → 1 ≤ n → 1 ≤ L .rounds → (b : Board) → Proper L b → Admitted L n b
+    → (cs : List Call) → EachFits cs → Admitted L n (after L n me b cs)
+unfolding after
+after-admitted L n me some rounds b p a [] none-left = a
+after-admitted L n me some rounds b p a (c ∷ cs) (fits-first _ _ f fs) =
+    after-admitted
+    L
+    n
+    me
+    some
+    rounds
+    (called L n me b c)
+    (called-proper L b p n me rounds c)
+    (called-admitted L n me b some p a c f)
+    cs
+    fs

@@ -9,7 +9,7 @@ use Rattle.delivery.specs.Limits.{Limits}
 use Rattle.delivery.specs.Delivered.{Store, heard}
 use Rattle.delivery.specs.Sets.{withBoard, withoutBoard}
 use Rattle.delivery.proofs.AgreementLaws.{Won}
-use Rattle.delivery.proofs.GrowthLaws.{Grows, won-grows}
+use Rattle.delivery.proofs.GrowthLaws.{Grows, grows-same, grows-on, won-grows}
 use Rattle.vote.specs.Boards.{freshBoard, isStarted, isDecided, isEnded, propose, suspecting}
 use Rattle.vote.specs.Announcements.{announce}
 use Rattle.vote.specs.Calls.{Call, proposal, own-turn, delivery, suspicion, trusting, announcement, called, after, signedIn, put, statements}
@@ -21,7 +21,7 @@ use Rattle.vote.specs.declared.board.Decision.{Decision}
 use Rattle.vote.specs.declared.board.Status.the-variants.{Decided}
 use Rattle.vote.specs.declared.turn.Turn.{Turn}
 use Rattle.vote.proofs.StatusLaws.{started-decided, ended-decided, decided-decided, decided-one, voting-decided, spent-decided, idle-decided}
-use Rattle.vote.proofs.TurnLaws.{nothing-one, Course, not-taken, passed, opened, balloted, decided, advanced, expired, turn-course, turn-ended}
+use Rattle.vote.proofs.TurnLaws.{nothing-one, turned, Course, not-taken, passed, opened, balloted, decided, advanced, expired, turn-course, turn-ended}
 use Rattle.vote.proofs.BoardLaws.{propose-started, propose-cases, hears-grows, deliver-hears, suspect-adds, trust-drops, adopted, announce-cases}
 use Rattle.vote.proofs.SigningLaws.{due, due-started, due-same, due-idle, turn-due, signed-past, signs-due, turn-signs}
 use Rattle.vote.proofs.ProperLaws.{Proper, fresh-proper, voting-round, called-proper}
@@ -29,26 +29,18 @@ use Rattle.vote.proofs.ProperLaws.{Proper, fresh-proper, voting-round, 
 abbrev store : Limits → Board → Store
 store L b = heard L (b .delivered)
 
--- what stands in a store stays there, whatever else comes
-grows-same : (h : Store) → Grows h h
-grows-same h = record { keeps = λ s i f. refl }
-
-grows-on : (h h′ h″ : Store) → Grows h h′ → Grows h′ h″ → Grows h h″
-grows-on h h′ h″ g k =
-    record { keeps = λ s i f. k .keeps s i (λ z. f (sym (g .keeps s i f) ∙ z)) ∙ g .keeps s i f }
-
 module _ (L : Limits) (n me : ℕ) (b : Board) where
   abbrev from : Board → Type 0
   from c = Grows (store L b) (store L c)
 
   course-grows : (t : Turn) → Course L n me b t → from (t .board)
-  course-grows t (not-taken a f e) = subst⁻¹ from (ap (λ (u : Turn). u .board) e) (grows-same (store L b))
-  course-grows t (passed v g f e) = subst⁻¹ from (ap (λ (u : Turn). u .board) e) (grows-same (store L b))
-  course-grows t (opened v g c e) = subst⁻¹ from (ap (λ (u : Turn). u .board) e) (hears-grows L (b .delivered) _)
-  course-grows t (balloted v g y e) = subst⁻¹ from (ap (λ (u : Turn). u .board) e) (hears-grows L (b .delivered) _)
-  course-grows t (decided w v g m o e) = subst⁻¹ from (ap (λ (u : Turn). u .board) e) (grows-same (store L b))
-  course-grows t (advanced w v g m z l x e) = subst⁻¹ from (ap (λ (u : Turn). u .board) e) (grows-same (store L b))
-  course-grows t (expired w v g m z l x e) = subst⁻¹ from (ap (λ (u : Turn). u .board) e) (grows-same (store L b))
+  course-grows t (not-taken a f e) = turned from t _ e (grows-same (store L b))
+  course-grows t (passed v g f e) = turned from t _ e (grows-same (store L b))
+  course-grows t (opened v g c e) = turned from t _ e (hears-grows L (b .delivered) _)
+  course-grows t (balloted v g y e) = turned from t _ e (hears-grows L (b .delivered) _)
+  course-grows t (decided w v g m o e) = turned from t _ e (grows-same (store L b))
+  course-grows t (advanced w v g m z l x e) = turned from t _ e (grows-same (store L b))
+  course-grows t (expired w v g m z l x e) = turned from t _ e (grows-same (store L b))
 
   pub called-grows : (c : Call) → Grows (store L b) (store L (called L n me b c))
   unfolding called

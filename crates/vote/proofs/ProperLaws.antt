@@ -21,7 +21,7 @@ use Rattle.vote.specs.declared.board.Status.the-variants.{Voting, Spent}
 use Rattle.vote.specs.declared.turn.Turn.{Turn}
 use Rattle.vote.proofs.StatusLaws.{started-voting, voting-spent, spent-decided, idle-spent, idle-unstarted}
 use Rattle.vote.proofs.RuleLaws.{Next, kept, taken}
-use Rattle.vote.proofs.TurnLaws.{placed, Course, not-taken, passed, opened, balloted, decided, advanced, expired, turn-course}
+use Rattle.vote.proofs.TurnLaws.{placed, turned, Course, not-taken, passed, opened, balloted, decided, advanced, expired, turn-course}
 use Rattle.vote.proofs.BoardLaws.{propose-cases, hears-whole, deliver-hears, suspect-adds, trust-drops, announce-cases}
 
 pub record Proper (L : Limits) (b : Board) : Type 0 where
@@ -58,16 +58,14 @@ module _ (L : Limits) (b : Board) (p : Proper L b) where
   same-round g d v w =
       record { whole = w; round = λ s. voting-round v; estimate = λ s. voting-estimate v; spent = λ s. absurd (voting-spent s) }
 
-  comes : (t u : Turn) → t ≡ u → Proper L (u .board) → Proper L (t .board)
-  comes t u e = subst⁻¹ (λ (x : Turn). Proper L (x .board)) e
-
   course-proper : (n me : ℕ) (t : Turn) → Course L n me b t → Proper L (t .board)
-  course-proper n me t (not-taken a f e) = comes t _ e p
-  course-proper n me t (passed v g f e) = comes t _ e (same-round Vote (b .delivered) v (p .whole))
-  course-proper n me t (opened v g c e) = comes t _ e (same-round Vote _ v (hears-whole L (b .delivered) _ (p .whole)))
-  course-proper n me t (balloted v g y e) = comes t _ e (same-round Count _ v (hears-whole L (b .delivered) _ (p .whole)))
+  course-proper n me t (not-taken a f e) = turned (Proper L) t _ e p
+  course-proper n me t (passed v g f e) = turned (Proper L) t _ e (same-round Vote (b .delivered) v (p .whole))
+  course-proper n me t (opened v g c e) = turned (Proper L) t _ e (same-round Vote _ v (hears-whole L (b .delivered) _ (p .whole)))
+  course-proper n me t (balloted v g y e) = turned (Proper L) t _ e (same-round Count _ v (hears-whole L (b .delivered) _ (p .whole)))
   course-proper n me t (decided w v g m o e) =
-      comes
+      turned
+      (Proper L)
       t
       _
       e
@@ -78,7 +76,8 @@ module _ (L : Limits) (b : Board) (p : Proper L b) where
         spent = λ s. absurd (spent-decided _ (sym s));
       })
   course-proper n me t (advanced w v g m z l x e) =
-      comes
+      turned
+      (Proper L)
       t
       _
       e
@@ -89,7 +88,8 @@ module _ (L : Limits) (b : Board) (p : Proper L b) where
         spent = λ s. absurd (voting-spent s);
       })
   course-proper n me t (expired w v g m z l x e) =
-      comes
+      turned
+      (Proper L)
       t
       _
       e

@@ -31,10 +31,6 @@ pub started-voting : isStarted Voting ≡ true
 unfolding isStarted
 started-voting = refl
 
-pub started-spent : isStarted Spent ≡ true
-unfolding isStarted
-started-spent = refl
-
 pub started-decided : (d : Decision) → isStarted (Decided d) ≡ true
 unfolding isStarted
 started-decided d = refl
@@ -71,10 +67,6 @@ idle-spent e = true≢false (sym (ap isStarted e))
 pub idle-decided : (d : Decision) → Idle ≡ Decided d → ⊥
 unfolding isStarted
 idle-decided d e = true≢false (sym (ap isStarted e))
-
-pub idle-voting : Idle ≡ Voting → ⊥
-unfolding isStarted
-idle-voting e = true≢false (sym (ap isStarted e))
 
 -- a board decides one thing
 decision : Decision → Status → Decision
