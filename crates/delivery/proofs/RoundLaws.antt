@@ -48,6 +48,14 @@ identifier-apart L p p′ r r′ h h′ e =
     (within-low (L .rounds) r′ h′)
     (sym (identifier-at L p r h) ∙ e ∙ identifier-at L p′ r′ h′)
 
+-- so no opening is a ballot
+pub openings-apart : (L : Limits) (r r′ : ℕ)
+    → isRound L r ≡ true → isRound L r′ ≡ true → identifierOf L Opening r ≡ identifierOf L Ballot r′ → ⊥
+unfolding phaseOf
+openings-apart L r r′ h h′ e =
+    let p : 2 * r - 1 ≡ 2 * r′ = sym (identifier-at L Opening r h) ∙ e ∙ identifier-at L Ballot r′ h′ in
+    omega (arith, p, within-low (L .rounds) r h)
+
 -- with two identifiers for each round, each of a round's is an identifier
 phase-within : (p : Phase) (r : ℕ) → 1 ≤ r → (1 ≤ phaseOf p r) × (phaseOf p r ≤ 2 * r)
 unfolding phaseOf

@@ -100,6 +100,27 @@ unfolding neg
 neg-in true h = absurd (true≢false h)
 neg-in false h = refl
 
+pub neg-false : (a : Bool) → neg a ≡ false → a ≡ true
+unfolding neg
+neg-false true h = refl
+neg-false false h = absurd (true≢false h)
+
+-- what a joined test that fails says of its parts
+pub and-under : (a b : Bool) → a ≡ true → (a and b) ≡ false → b ≡ false
+unfolding _and_
+and-under true b h e = e
+and-under false b h e = absurd (true≢false (sym h))
+
+pub or-false-left : (a b : Bool) → (a or b) ≡ false → a ≡ false
+unfolding _or_
+or-false-left true b h = h
+or-false-left false b h = refl
+
+pub or-false-right : (a b : Bool) → (a or b) ≡ false → b ≡ false
+unfolding _or_
+or-false-right true b h = absurd (true≢false h)
+or-false-right false b h = h
+
 -- two tests that pass together are one
 pub same-test : (a b : Bool) → (a ≡ true → b ≡ true) → (b ≡ true → a ≡ true) → a ≡ b
 same-test true true f g = refl

@@ -21,7 +21,11 @@ pub record WellFormed (limit : ℕ) (s : Signer) : Type 0 where
   pub within : s .last .0 ≤ limit
   pub capped : (i v : ℕ) → Signed s i v → i ≤ s .last .0
 
--- a fresh signer has signed nothing
+-- a fresh signer's `last` is 0, and it has signed nothing
+pub fresh-last : (limit : ℕ) → freshSigner limit .last .0 ≡ 0
+unfolding freshSigner
+fresh-last limit = refl
+
 pub fresh-unsigned : (limit i v : ℕ) → Signed (freshSigner limit) i v → ⊥
 unfolding freshSigner
 fresh-unsigned limit i v h = omega (arith, entry-empty limit i)

@@ -1,4 +1,5 @@
--- Laws of the calls that are no turn: a proposal, a delivery, a suspicion, an announcement. Assumes nothing.
+-- Laws of a fresh board, and of the calls that are no turn: a proposal, a delivery, a suspicion, an announcement. Assumes
+-- nothing.
 use Prim.Native.Nat.{ℕ}
 use borrow.Author.Tests.{eq-eqb, ne-eqb, leb-true, le-leb}
 use native.Mathlib.Decide.{ℕ-discrete}
@@ -10,7 +11,7 @@ use Rattle.signer.proofs.ChoiceLaws.{if-true, if-false}
 use Rattle.delivery.specs.Tests.{_and_, _or_, neg}
 use Rattle.delivery.specs.Limits.{Limits}
 use Rattle.delivery.specs.Bus.{quorum}
-use Rattle.delivery.specs.Delivered.{heard, deliver}
+use Rattle.delivery.specs.Delivered.{nothingDelivered, heard, deliver}
 use Rattle.delivery.specs.Sets.{withBoard, withoutBoard}
 use Rattle.delivery.specs.declared.delivered.Delivered.{Delivered}
 use Rattle.delivery.proofs.TestLaws.{and-left, and-right, and-in, or-left, or-right, or-no, neg-true, neg-in, decided}
@@ -20,14 +21,33 @@ use Rattle.delivery.proofs.OneRoundLaws.{some-value, value-some}
 use Rattle.delivery.proofs.AgreementLaws.{Won}
 use Rattle.delivery.proofs.GrowthLaws.{Grows, deliver-grows}
 use Rattle.vote.specs.Ballots.{tally}
-use Rattle.vote.specs.Boards.{isStarted, isDecided, withStatus, startingWith, propose, hears, deliverTo, suspecting, suspect, trust}
+use Rattle.vote.specs.Boards.{freshPosition, freshBoard, isStarted, isDecided, withStatus, startingWith, propose, hears, deliverTo, suspecting, suspect, trust}
 use Rattle.vote.specs.Announcements.{convinced, announce}
 use Rattle.vote.specs.declared.position.Stage.the-variants.{Open}
+use Rattle.vote.specs.declared.position.Position.{Position}
 use Rattle.vote.specs.declared.statement.Statement.{Statement}
 use Rattle.vote.specs.declared.board.Board.{Board}
-use Rattle.vote.specs.declared.board.Status.the-variants.{Voting, Decided}
+use Rattle.vote.specs.declared.board.Status.the-variants.{Idle, Voting, Decided}
 use Rattle.vote.proofs.BallotLaws.{tally-won}
 use Rattle.vote.proofs.TurnLaws.{placed}
+
+-- a fresh board stands nowhere, has delivered nothing and has not started
+module _ (L : Limits) where
+  pub fresh-position : freshBoard L .position ≡ freshPosition
+  unfolding freshBoard
+  fresh-position = refl
+
+  pub fresh-estimate : freshBoard L .position .estimate ≡ 0
+  unfolding freshBoard freshPosition
+  fresh-estimate = refl
+
+  pub fresh-delivered : freshBoard L .delivered ≡ nothingDelivered L
+  unfolding freshBoard
+  fresh-delivered = refl
+
+  pub fresh-status : freshBoard L .status ≡ Idle
+  unfolding freshBoard
+  fresh-status = refl
 
 -- a proposal starts a board that has not started, at round 1 with the value as its estimate; it starts once
 module _ (b : Board) (v : ℕ) where
@@ -37,6 +57,14 @@ module _ (b : Board) (v : ℕ) where
   pub propose-starts : isStarted (b .status) ≡ false → (v ≡ 0 → ⊥) → propose b v ≡ begun
   unfolding propose startingWith
   propose-starts s z = if-false (isStarted (b .status) or eqb v 0) b begun (or-no (isStarted (b .status)) (eqb v 0) s (ne-eqb v 0 z))
+
+  pub propose-position : isStarted (b .status) ≡ false → (v ≡ 0 → ⊥) → propose b v .position ≡ startingWith (b .position) v
+  unfolding startingWith
+  propose-position u z = ap (λ (x : Board). x .position) (propose-starts u z)
+
+  pub starting-estimate : (p : Position) → startingWith p v .estimate ≡ v
+  unfolding startingWith
+  starting-estimate p = refl
 
   pub propose-started : isStarted (b .status) ≡ true → propose b v ≡ b
   unfolding propose startingWith

@@ -10,7 +10,8 @@ use Rattle.delivery.specs.Delivered.{Store, heard}
 use Rattle.delivery.specs.Sets.{withBoard, withoutBoard}
 use Rattle.delivery.proofs.AgreementLaws.{Won}
 use Rattle.delivery.proofs.GrowthLaws.{Grows, grows-same, grows-on, won-grows}
-use Rattle.vote.specs.Boards.{freshBoard, isStarted, isDecided, isEnded, propose, suspecting}
+use Rattle.vote.specs.Boards.{freshBoard, isStarted, isDecided, isEnded, propose, deliverTo, suspect, trust, suspecting}
+use Rattle.vote.specs.Turns.{turn}
 use Rattle.vote.specs.Announcements.{announce}
 use Rattle.vote.specs.Calls.{Call, proposal, own-turn, delivery, suspicion, trusting, announcement, called, after, signedIn, put, statements}
 use Rattle.vote.specs.declared.statement.Statement.{Statement}
@@ -30,6 +31,31 @@ abbrev store : Limits → Board → Store
 store L b = heard L (b .delivered)
 
 module _ (L : Limits) (n me : ℕ) (b : Board) where
+  -- what each call comes to
+  pub called-proposal : (v : ℕ) → called L n me b (proposal v) ≡ propose b v
+  unfolding called
+  called-proposal v = refl
+
+  pub called-turn : called L n me b own-turn ≡ turn L n me b .board
+  unfolding called
+  called-turn = refl
+
+  pub called-delivery : (s : Statement) → called L n me b (delivery s) ≡ deliverTo L b s
+  unfolding called
+  called-delivery s = refl
+
+  pub called-suspicion : (k : ℕ) → called L n me b (suspicion k) ≡ suspect b k
+  unfolding called
+  called-suspicion k = refl
+
+  pub called-trusting : (k : ℕ) → called L n me b (trusting k) ≡ trust b k
+  unfolding called
+  called-trusting k = refl
+
+  pub called-announcement : (r v : ℕ) → called L n me b (announcement r v) ≡ announce L n b r v
+  unfolding called
+  called-announcement r v = refl
+
   abbrev from : Board → Type 0
   from c = Grows (store L b) (store L c)
 

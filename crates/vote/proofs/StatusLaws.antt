@@ -1,7 +1,14 @@
 -- Laws of how far a board is. Assumes nothing.
-use mathlib.Core.Path.{_≡_, refl, sym, ap}
+use Prim.Native.Nat.{ℕ}
+use mathlib.Core.Path.{_≡_, refl, sym, ap, _∙_}
 use mathlib.Core.Bool.{true, false, true≢false}
-use Rattle.vote.specs.Boards.{isStarted, isDecided, isEnded}
+use borrow.Author.Tests.{eq-eqb, eqb-true}
+use lib.Dec.{eqb}
+use Rattle.delivery.proofs.TestLaws.{and-left, and-right, and-in}
+use Rattle.vote.specs.Boards.{isStarted, isDecided, isEnded, hasDecided}
+use Rattle.vote.specs.Turns.{statusAfter}
+use Rattle.vote.specs.declared.rule.Move.{Move}
+use Rattle.vote.specs.declared.rule.Move.the-variants.{Waits, Passes, Opens, Ballots, Decides, Advances, Expires}
 use Rattle.vote.specs.declared.board.Decision.{Decision}
 use Rattle.vote.specs.declared.board.Status.{Status}
 use Rattle.vote.specs.declared.board.Status.the-variants.{Idle, Voting, Spent, Decided}
@@ -78,3 +85,37 @@ decision d (Decided c) = c
 pub decided-one : (d c : Decision) → Decided d ≡ Decided c → d ≡ c
 unfolding decision
 decided-one d c e = ap (decision d) e
+
+-- a board has decided v in r if its status says so
+abbrev pub decisionOf : ℕ → ℕ → Decision
+decisionOf r v = record { round = record { 0 = r }; value = v }
+
+pub has-decided : (r v : ℕ) → hasDecided (Decided (decisionOf r v)) r v ≡ true
+unfolding hasDecided
+has-decided r v = and-in (eqb r r) (eqb v v) (eq-eqb r r refl) (eq-eqb v v refl)
+
+pub decided-has : (s : Status) (r v : ℕ) → hasDecided s r v ≡ true → s ≡ Decided (decisionOf r v)
+unfolding hasDecided
+decided-has Idle r v e = absurd (true≢false (sym e))
+decided-has Voting r v e = absurd (true≢false (sym e))
+decided-has Spent r v e = absurd (true≢false (sym e))
+decided-has (Decided d) r v e =
+    ap (λ (m : ℕ). Decided (decisionOf m (d .value))) (eqb-true (d .round .0) r (and-left (eqb (d .round .0) r) (eqb (d .value) v) e))
+    ∙ ap (λ (m : ℕ). Decided (decisionOf r m)) (eqb-true (d .value) v (and-right (eqb (d .round .0) r) (eqb (d .value) v) e))
+
+-- the move that makes a board decide
+pub decides-status : (r v : ℕ) → statusAfter r (Decides v) ≡ Decided (decisionOf r v)
+unfolding statusAfter
+decides-status r v = refl
+
+pub status-decides : (r : ℕ) (m : Move) (d : Decision) → statusAfter r m ≡ Decided d → (m ≡ Decides (d .value)) × (r ≡ d .round .0)
+unfolding statusAfter
+status-decides r Waits d e = absurd (voting-decided d e)
+status-decides r Passes d e = absurd (voting-decided d e)
+status-decides r (Opens v) d e = absurd (voting-decided d e)
+status-decides r (Ballots v) d e = absurd (voting-decided d e)
+status-decides r (Decides v) d e =
+    let i : decisionOf r v ≡ d = decided-one (decisionOf r v) d e in
+    (ap (λ (x : Decision). Decides (x .value)) i, ap (λ (x : Decision). x .round .0) i)
+status-decides r (Advances v) d e = absurd (voting-decided d e)
+status-decides r (Expires v) d e = absurd (spent-decided d e)

@@ -2,7 +2,8 @@
 use Prim.Native.Nat.{ℕ, suc, _≤_, _<_}
 use mathlib.Core.Path.{_≡_, refl, sym, ap, subst⁻¹, _∙_}
 use mathlib.Core.Bool.{Bool, true, false, true≢false}
-use mathlib.Core.Logic.{_⊎_, inl}
+use mathlib.Core.Logic.{_⊎_, inl, inr}
+use native.Mathlib.Omega.{arith}
 use Rattle.delivery.specs.Limits.{Limits}
 use Rattle.delivery.specs.Rounds.{coordinator, nextRound, identifierOf}
 use Rattle.delivery.specs.Delivered.{Store, heard}
@@ -16,7 +17,7 @@ use Rattle.delivery.proofs.AgreementLaws.{Won}
 use Rattle.vote.specs.Ballots.{openedValue}
 use Rattle.vote.specs.Boards.{isEnded, hears}
 use Rattle.vote.specs.Rule.{mayVote, chosen, rule}
-use Rattle.vote.specs.Turns.{atStage, positionAfter, statusAfter, statement, saidIn, hearsOwn, answerTo, refuse, take, turnIn, turn}
+use Rattle.vote.specs.Turns.{numberOf, atStage, positionAfter, statusAfter, statement, saidIn, hearsOwn, answerTo, refuse, take, turnIn, turn}
 use Rattle.vote.specs.declared.position.Stage.{Stage}
 use Rattle.vote.specs.declared.position.Stage.the-variants.{Open, Vote, Count}
 use Rattle.vote.specs.declared.rule.Move.{Move}
@@ -113,17 +114,36 @@ answered NotStarted = false
 answered Ended = false
 answered Waiting = false
 
-idle-not : NotStarted ≡ Done → ⊥
+pub idle-not : NotStarted ≡ Done → ⊥
 unfolding answered
 idle-not e = true≢false (sym (ap answered e))
 
-ended-not : Ended ≡ Done → ⊥
+pub ended-not : Ended ≡ Done → ⊥
 unfolding answered
 ended-not e = true≢false (sym (ap answered e))
 
-waiting-not : Waiting ≡ Done → ⊥
+pub waiting-not : Waiting ≡ Done → ⊥
 unfolding answered
 waiting-not e = true≢false (sym (ap answered e))
+
+-- the numbers of the answers: 0 is that of `Done` alone, and the others are among those of the rows for events
+pub number-done : numberOf Done ≡ 0
+unfolding numberOf
+number-done = refl
+
+pub number-within : (a : Answer) → (numberOf a ≡ 0) ⊎ ((10 ≤ numberOf a) × (numberOf a ≤ 22))
+unfolding numberOf
+number-within Done = inl refl
+number-within NotStarted = inr (omega arith, omega arith)
+number-within Ended = inr (omega arith, omega arith)
+number-within Waiting = inr (omega arith, omega arith)
+
+pub number-some : (a : Answer) → numberOf a ≡ 0 → a ≡ Done
+unfolding numberOf
+number-some Done e = refl
+number-some NotStarted e = absurd (omega (arith, e))
+number-some Ended e = absurd (omega (arith, e))
+number-some Waiting e = absurd (omega (arith, e))
 
 -- whose turn is not taken: one that has not started, and one that is decided or spent
 ended-turn : (L : Limits) (n me : ℕ) (b : Board) (s : Status) → isEnded s ≡ true → turnIn L n me b s ≡ refuse b Ended

@@ -1,0 +1,74 @@
+-- Laws of a bench's boards and signers, each read back after a change. Assumes nothing.
+use Prim.Native.Nat.{ℕ, _+_, _<_}
+use mathlib.Core.Path.{_≡_}
+use mathlib.Core.Bool.{Bool, true, false}
+use lib.ListN.{length}
+use native.Mathlib.Numerals.{add-one}
+use native.Mathlib.Omega.{arith}
+use Rattle.signer.proofs.FromOneLaws.{within-low, within-high, nth-set-same, nth-set-other, nth-replicate}
+use Rattle.signer.specs.Signer.{freshSigner, sign}
+use Rattle.delivery.specs.Limits.{Limits}
+use Rattle.delivery.specs.Bus.{isBoard}
+use Rattle.delivery.specs.Sets.{setOf, bits, withBoard}
+use Rattle.delivery.proofs.SetLaws.{with-next, skip-next}
+use Rattle.vote.specs.Boards.{freshBoard}
+use Rattle.vote.specs.declared.board.Board.{Board}
+use Rattle.bench.specs.Benches.{boardAt, signerAt}
+use Rattle.bench.specs.Effects.{withBoardAt, withSignature}
+use Rattle.bench.specs.Setups.{benchOf}
+use Rattle.bench.specs.declared.bench.Bench.{Bench}
+
+module _ (L : Limits) (c : Bench) where
+  -- board k is the one that was put there
+  pub board-same : (k : ℕ) (b : Board) → length (c .boards) ≡ L .boards → isBoard L k ≡ true
+      → boardAt L (withBoardAt c k b) k ≡ b
+  unfolding boardAt withBoardAt
+  board-same k b size h =
+      nth-set-same
+      (c .boards)
+      k
+      b
+      (freshBoard L)
+      (within-low (L .boards) k h)
+      (omega (arith, size, within-high (L .boards) k h))
+
+  -- every other board is as it was
+  pub board-other : (j k : ℕ) (b : Board) → (j ≡ k → ⊥) → boardAt L (withBoardAt c k b) j ≡ boardAt L c j
+  unfolding boardAt withBoardAt
+  board-other j k b h = nth-set-other (c .boards) j k b (freshBoard L) h
+
+  -- board k's signer is the one that was asked for the signature
+  pub signer-same : (k i v : ℕ) → length (c .signers) ≡ L .boards → isBoard L k ≡ true
+      → signerAt L (withSignature L c k i v) k ≡ sign (L .identifiers) (signerAt L c k) i v .signer
+  unfolding signerAt withSignature
+  signer-same k i v size h =
+      nth-set-same
+      (c .signers)
+      k
+      _
+      (freshSigner (L .identifiers))
+      (within-low (L .boards) k h)
+      (omega (arith, size, within-high (L .boards) k h))
+
+  -- every other signer is as it was
+  pub signer-other : (j k i v : ℕ) → (j ≡ k → ⊥) → signerAt L (withSignature L c k i v) j ≡ signerAt L c j
+  unfolding signerAt withSignature
+  signer-other j k i v h = nth-set-other (c .signers) j k _ (freshSigner (L .identifiers)) h
+
+-- on a bench on which nothing has happened, every board and every signer is a fresh one
+pub board-fresh : (L : Limits) (n sound k : ℕ) → boardAt L (benchOf L n sound) k ≡ freshBoard L
+unfolding boardAt benchOf
+board-fresh L n sound k = nth-replicate (L .boards) k (freshBoard L)
+
+pub signer-fresh : (L : Limits) (n sound k : ℕ) → signerAt L (benchOf L n sound) k ≡ freshSigner (L .identifiers)
+unfolding signerAt benchOf
+signer-fresh L n sound k = nth-replicate (L .boards) k (freshSigner (L .identifiers))
+
+-- a turn of a loop that builds a set takes the next board in
+pub set-take : (k set : ℕ) (p : ℕ → Bool) → set ≡ setOf k p → k < bits → p (k + 1) ≡ true
+    → withBoard set (k + 1) ≡ setOf (k + 1) p
+set-take k set p e l h = rw (e, add-one k) (with-next k p l (rw add-one at h))
+
+-- or leaves it out
+pub set-leave : (k set : ℕ) (p : ℕ → Bool) → set ≡ setOf k p → p (k + 1) ≡ false → set ≡ setOf (k + 1) p
+set-leave k set p e h = rw (e, add-one k) (skip-next k p (rw add-one at h))

@@ -1,0 +1,116 @@
+-- Laws of a list of events that is played from its bytes: what one event more does, how long the lists are, and what is
+-- written in a lent buffer. Assumes nothing.
+use Prim.Native.Nat.{ℕ, zero, suc, _+_, _-_, _≤_, _<_, _/_, _%_}
+use borrow.Author.Tests.{leb-true}
+use native.Mathlib.Nat.{zero-add}
+use native.Mathlib.Numerals.{add-one}
+use native.Mathlib.Omega.{arith}
+use mathlib.Core.Path.{_≡_, refl, sym, ap, _∙_}
+use mathlib.Core.List.{List, [], _∷_, _++_}
+use lib.Dec.{eqb, leb}
+use lib.ListN.{length, drop, set, length-append, length-drop}
+use lib.Seq.{sets, sets-eq, drop-drop}
+use Rattle.signer.proofs.ChoiceLaws.{if-elim}
+use Rattle.delivery.specs.Limits.{Limits}
+use Rattle.bench.specs.Events.{eventBytes, eventFrom}
+use Rattle.bench.specs.Answers.{answerNumber}
+use Rattle.bench.specs.Effects.{stepOf}
+use Rattle.bench.specs.Runs.{after, answersTo, eventsIn, endingOf, playedBy, eventsPlayed, written}
+use Rattle.bench.specs.Story.{History, historyOf}
+use Rattle.bench.specs.declared.bench.Bench.{Bench}
+use Rattle.bench.specs.declared.event.Event.{Event}
+use Rattle.bench.specs.declared.play.Ending.{Ending}
+use Rattle.bench.specs.declared.play.Ending.the-variants.{Played}
+
+-- as many events are read as are asked for
+pub length-events : (k : ℕ) (bs : List ℕ) → length (eventsIn k bs) ≡ k
+unfolding eventsIn
+length-events zero bs = refl
+length-events (suc k) bs = ap suc (length-events k (drop eventBytes bs))
+
+-- and each is answered
+pub length-answers : (L : Limits) (c : Bench) (es : List Event) → length (answersTo L c es) ≡ length es
+unfolding answersTo
+length-answers L c [] = refl
+length-answers L c (e ∷ es) = ap suc (length-answers L (stepOf L c e .bench) es)
+
+-- of the events that are left after k of n, the first is at the head of the bytes that are left
+events-next : (n k at : ℕ) (bs : List ℕ) → k < n
+    → eventsIn (n - k) (drop at bs) ≡ eventFrom (drop at bs) ∷ eventsIn (n - (k + 1)) (drop (at + eventBytes) bs)
+unfolding eventsIn
+events-next n k at bs h =
+    let e : n - k ≡ suc (n - (k + 1)) = omega arith in
+    ap (λ (m : ℕ). eventsIn m (drop at bs)) e
+    ∙ ap (λ (xs : List ℕ). eventFrom (drop at bs) ∷ eventsIn (n - (k + 1)) xs) (drop-drop eventBytes at bs)
+
+module _ (L : Limits) (c : Bench) (n k at : ℕ) (bs : List ℕ) (h : k < n) where
+  -- so the bench after those that are left is that after this one and the rest
+  pub after-next : after L c (eventsIn (n - k) (drop at bs))
+      ≡ after L (stepOf L c (eventFrom (drop at bs)) .bench) (eventsIn (n - (k + 1)) (drop (at + eventBytes) bs))
+  unfolding after
+  after-next = ap (λ (es : List Event). after L c es) (events-next n k at bs h)
+
+  -- and their answers are written by writing this one's, and then the rest
+  pub answers-next : (buf : List ℕ) → sets buf k (answersTo L c (eventsIn (n - k) (drop at bs)))
+      ≡ sets
+      (set buf k (answerNumber (stepOf L c (eventFrom (drop at bs)) .answer)))
+      (k + 1)
+      (answersTo L (stepOf L c (eventFrom (drop at bs)) .bench) (eventsIn (n - (k + 1)) (drop (at + eventBytes) bs)))
+  unfolding answersTo
+  answers-next buf =
+      ap (λ (es : List Event). sets buf k (answersTo L c es)) (events-next n k at bs h)
+      ∙ ap
+      (λ (j : ℕ). sets (set buf k (answerNumber (stepOf L c (eventFrom (drop at bs)) .answer))) j (answersTo L (stepOf L c (eventFrom (drop at bs)) .bench) (eventsIn (n - (k + 1)) (drop (at + eventBytes) bs))))
+      (sym (add-one k))
+
+-- once none is left, the bench and the buffer are as they stand
+pub after-none : (L : Limits) (c : Bench) (k : ℕ) (bs : List ℕ) → k ≡ 0 → after L c (eventsIn k bs) ≡ c
+unfolding after eventsIn
+after-none L c k bs e = rw e
+
+pub answers-none : (L : Limits) (c : Bench) (k i : ℕ) (bs buf : List ℕ) → k ≡ 0 → sets buf i (answersTo L c (eventsIn k bs)) ≡ buf
+unfolding answersTo eventsIn
+answers-none L c k i bs buf e = rw e
+
+-- writing one after another from the start is writing all in place of the first
+pub sets-written : (xs ys : List ℕ) → length xs ≤ length ys → sets ys 0 xs ≡ written xs ys
+unfolding written
+sets-written xs ys h = sets-eq xs ys 0 (omega arith) ∙ ap (λ (m : ℕ). xs ++ drop m ys) (zero-add (length xs))
+
+-- a buffer that is written stays as long as it was
+pub length-written : (xs ys : List ℕ) → length xs ≤ length ys → length (written xs ys) ≡ length ys
+unfolding written
+length-written xs ys h = omega (arith, length-append xs (drop (length xs) ys), length-drop (length xs) ys)
+
+-- there is room for the answers to what is played
+pub played-fits : (bs : List ℕ) (room : ℕ) → length (eventsPlayed bs room) ≤ room
+unfolding endingOf playedBy
+played-fits bs room =
+    if-elim
+    (λ (x : Ending). length (playedBy x bs) ≤ room)
+    (eqb (length bs % eventBytes) 0)
+    _
+    _
+    (λ h. if-elim (λ (x : Ending). length (playedBy x bs) ≤ room) (leb (length bs / eventBytes) room) _ _ (λ g. omega (arith, length-events (length bs / eventBytes) bs, leb-true (length bs / eventBytes) room g)) (λ g. omega arith))
+    (λ h. omega arith)
+
+pub played-room : (bs : List ℕ) (room : ℕ) → endingOf (length bs) room ≡ Played → length bs / eventBytes ≤ room
+unfolding playedBy
+played-room bs room h =
+    let e : length (eventsPlayed bs room) ≡ length (eventsIn (length bs / eventBytes) bs) = ap (λ (x : Ending). length (playedBy x bs)) h in
+    omega (arith, played-fits bs room, e, length-events (length bs / eventBytes) bs)
+
+-- a history looks at no more of the buffer than the answers
+history-append : (L : Limits) (c : Bench) (es : List Event) (ys : List ℕ)
+    → historyOf es (answersTo L c es ++ ys) ≡ historyOf es (answersTo L c es)
+unfolding historyOf answersTo
+history-append L c [] ys = refl
+history-append L c (e ∷ es) ys =
+    ap
+    (λ (H : History). record { event = e; answer = answerNumber (stepOf L c e .answer) } ∷ H)
+    (history-append L (stepOf L c e .bench) es ys)
+
+pub history-written : (L : Limits) (c : Bench) (es : List Event) (buf : List ℕ)
+    → historyOf es (written (answersTo L c es) buf) ≡ historyOf es (answersTo L c es)
+unfolding written
+history-written L c es buf = history-append L c es (drop (length (answersTo L c es)) buf)

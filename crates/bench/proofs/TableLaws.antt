@@ -1,0 +1,63 @@
+-- Laws of the table: of the kinds that an event may be of, of tests joined, and of the first row that applies.
+-- Assumes nothing.
+use Prim.Native.Nat.{ℕ}
+use mathlib.Core.Path.{_≡_, refl, ap, _∙_}
+use mathlib.Core.Bool.{Bool, true, false, not}
+use mathlib.Core.List.{List, [], _∷_}
+use lib.Dec.{eqb}
+use Rattle.signer.proofs.ChoiceLaws.{if-true, if-false}
+use Rattle.delivery.specs.Tests.{_and_, _or_, neg}
+use Rattle.delivery.proofs.TestLaws.{and-yes-left, and-no-left, or-no, or-no-left, or-no-right}
+use Rattle.bench.specs.Events.{delivering, announcing, suspecting, trusting, signing, usesOther, usesId}
+use Rattle.bench.specs.Table.{firstOf}
+use Rattle.bench.specs.declared.answer.Answer.{Answer}
+use Rattle.bench.specs.declared.answer.Answer.the-variants.{Accepted}
+
+-- what the code negates is the word "not" of the same test
+pub not-same : (a b : Bool) → a ≡ b → not a ≡ neg b
+unfolding neg
+not-same true b h = ap neg h
+not-same false b h = ap neg h
+
+-- of two tests, each with what is asked where it passes, the one that passes alone decides
+pub first-asked : (a x b y : Bool) → a ≡ true → b ≡ false → ((a and x) or (b and y)) ≡ x
+first-asked a x b y p q = or-no-right _ _ (and-no-left _ _ q) ∙ and-yes-left _ _ p
+
+pub second-asked : (a x b y : Bool) → a ≡ false → b ≡ true → ((a and x) or (b and y)) ≡ y
+second-asked a x b y p q = or-no-left _ _ (and-no-left _ _ p) ∙ and-yes-left _ _ q
+
+-- and where neither passes, nothing is asked
+pub none-asked : (a x b y : Bool) → a ≡ false → b ≡ false → ((a and x) or (b and y)) ≡ false
+none-asked a x b y p q = or-no _ _ (and-no-left _ _ p) (and-no-left _ _ q)
+
+-- a number that is j is no other
+pub other : (k j i : ℕ) → k ≡ j → eqb j i ≡ false → eqb k i ≡ false
+other k j i h e = ap (λ (m : ℕ). eqb m i) h ∙ e
+
+-- a kind with another board that is no delivery is an announcement, suspicion or trust
+pub other-rest : (k : ℕ) → eqb k delivering ≡ false
+    → usesOther k ≡ (eqb k announcing or eqb k suspecting or eqb k trusting)
+unfolding usesOther
+other-rest k h = or-no-left _ _ h
+
+-- a kind with an identifier that is no announcement is a delivery or a signature
+pub id-rest : (k : ℕ) → eqb k announcing ≡ false → usesId k ≡ (eqb k delivering or eqb k signing)
+unfolding usesId
+id-rest k h = ap (λ (b : Bool). eqb k delivering or b) (or-no-left _ _ h)
+
+-- a row that applies is the first
+pub first-takes : (b : Bool) (a : Answer) (rows : List (Bool × Answer))
+    → b ≡ true → firstOf ((b, a) ∷ rows) ≡ a
+unfolding firstOf
+first-takes b a rows h = if-true _ _ _ h
+
+-- and one that does not is passed over
+pub first-skips : (b : Bool) (a : Answer) (rows : List (Bool × Answer))
+    → b ≡ false → firstOf ((b, a) ∷ rows) ≡ firstOf rows
+unfolding firstOf
+first-skips b a rows h = if-false _ _ _ h
+
+-- where no row is left, the event is accepted
+pub first-none : firstOf [] ≡ Accepted
+unfolding firstOf
+first-none = refl

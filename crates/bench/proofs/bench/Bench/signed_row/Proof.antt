@@ -1,0 +1,27 @@
+-- `Bench::signed_row` meets its contract. Assumes nothing.
+use borrow.Author.Needs.{needs}
+use borrow.Author.Tests.{eq-eqb, ne-eqb}
+use mathlib.Core.Path.{refl, sym, _∙_}
+use Rattle.delivery.proofs.TestLaws.{and-no-left, and-yes-left}
+use Rattle.bench.specs.Table.{signedRow}
+use Rattle.bench.proofs.TableLaws.{not-same}
+use Rattle.bench.proofs.bench.Bench.signed_row.Statement.{statement}
+use Rattle.bench.proofs.bench.Bench.signed_row.Tie as tie
+
+returns : tie.Need-returns
+unfolding signedRow
+returns c = sym (and-no-left _ _ (ne-eqb _ _ (c .if1 .taken)))
+
+signed-requires : tie.Need-signed-requires
+signed-requires c κs = search needs
+
+entry-of-requires : tie.Need-entry-of-requires
+entry-of-requires c κs = search needs
+
+returns-2 : tie.Need-returns-2
+unfolding signedRow
+returns-2 c =
+    rw (c .entry-of .ensures, c .before .signed .ensures) (not-same _ _ refl ∙ sym (and-yes-left _ _ (eq-eqb _ _ (c .before .before .if1 .left))))
+
+pub signed-row-spec : {M : Type 1} → statement M
+signed-row-spec = tie.close (tie.spec returns signed-requires entry-of-requires returns-2)

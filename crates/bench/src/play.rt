@@ -1,0 +1,95 @@
+ghost use Prim.Native.Nat.{_≤_, _*_};
+ghost use mathlib.Core.Path.{_≡_};
+ghost use lib.ListN.{length};
+ghost use Rattle.delivery.specs.Limits.{limits};
+ghost use Rattle.bench.specs.Events.{eventBytes};
+ghost use Rattle.bench.specs.Runs.{eventsIn, after, answersTo, written, endingOf, playedOf, answersAfter};
+ghost use Rattle.bench.specs.Claim.{Agreement};
+ghost use Rattle.bench.specs.Demands.{playedHistory};
+use crate::answer::FreshAnswer;
+use crate::bench::Bench;
+use crate::event::Event;
+
+// How playing a list went: it was played, or it was not, since its bytes are not whole events, or since there is no
+// room for its answers.
+pub enum Ending {
+    Played,
+    Ragged,
+    Short,
+}
+
+// What comes of playing a list into a fresh bench: the bench, the answer to the call for the fresh one, and how it
+// went.
+pub struct Played {
+    pub bench: Bench,
+    pub answer: FreshAnswer,
+    pub ending: Ending,
+}
+
+// Whether the events of a list can be played, given the room for answers.
+fn how_it_ends(bytes: usize, room: usize) -> Ending
+    ensures { λ r. ⌜ r ≡ endingOf bytes room ⌝ }
+{
+    if bytes % Event::BYTES != 0 {
+        return Ending::Ragged;
+    }
+    if bytes / Event::BYTES > room {
+        return Ending::Short;
+    }
+    Ending::Played
+}
+
+impl Bench {
+    // Plays so many events, and writes their answers.
+    fn run(self, count: usize, events: &[u8], answers: &mut [u8]) -> Bench
+        requires { ⌜ (eventBytes * count ≤ length (now events)) × (count ≤ length (now answers)) ⌝ }
+        ensures { λ r. ⌜ (r ≡ after limits self (eventsIn count (now (events .entry)))) × (now (answers .exit) ≡ written (answersTo limits self (eventsIn count (now (events .entry)))) (now (answers .entry))) ⌝ }
+    {
+        let mut bench = self;
+        let mut at = 0usize;
+        let mut k = 0usize;
+        while k < count {
+            let event = Event::read(&events[at..]);
+            let outcome = bench.event(event);
+            bench = outcome.bench;
+            let answer = outcome.answer;
+            answers[k] = answer.number();
+            at += Event::BYTES;
+            k += 1;
+        }
+        bench
+    }
+
+    // Makes a fresh bench and plays a list of events into it, the bytes of each as they stand in a schedule. Each
+    // answer's number is written to its place in `answers`, and the rest of `answers` stays. A list that cannot be
+    // played leaves the bench fresh and `answers` as it was.
+    pub fn play(
+        n: u8,
+        marks: [u8; Bench::BOARDS as usize],
+        events: &[u8],
+        answers: &mut [u8],
+    ) -> Played
+        ensures { λ r. ⌜ (r ≡ playedOf limits n marks (now (events .entry)) (length (now (answers .entry)))) × (now (answers .exit) ≡ answersAfter limits n marks (now (events .entry)) (now (answers .entry))) × Agreement limits n marks (playedHistory (now (events .entry)) (now (answers .exit))) (r .bench) ⌝ }
+    {
+        let fresh = Bench::fresh(n, marks);
+        let bench = fresh.bench;
+        let answer = fresh.answer;
+        let ending = how_it_ends(events.len(), answers.len());
+        match ending {
+            Ending::Played => {
+                let count = events.len() / Event::BYTES;
+                let bench = bench.run(count, events, answers);
+                Played {
+                    bench,
+                    answer,
+                    ending,
+                }
+            }
+            _ => Played {
+                bench,
+                answer,
+                ending,
+            },
+        }
+    }
+}
