@@ -4,7 +4,7 @@ use Prim.Native.Nat.{ℕ}
 use mathlib.Core.Path.{_≡_, refl, sym, ap, subst, subst⁻¹, _∙_, fun-ext}
 use mathlib.Core.Bool.{true, false, true≢false}
 use mathlib.Core.Logic.{_⊎_, inl, inr, ⊎-elim, _↔_}
-use borrow.Author.Tests.{eq-eqb, eqb-true, eqb-false}
+use borrow.Author.Tests.{eq-eqb, eqb-true}
 use lib.Dec.{eqb}
 use Rattle.signer.specs.FromOne.{isWithin}
 use Rattle.signer.specs.Choice.{if_then_else_}
@@ -24,7 +24,6 @@ use Rattle.vote.specs.Boards.{isStarted, isDecided, startingWith, hears, propos
 use Rattle.vote.specs.Announcements.{announce}
 use Rattle.vote.specs.declared.board.Decision.{Decision}
 use Rattle.vote.proofs.StatusLaws.{unstarted-idle, idle-decided, voting-decided, decided-one, decided-decided, decisionOf, decides-status, status-decides}
-use Rattle.vote.specs.Rule.{rule}
 use Rattle.vote.specs.Turns.{positionAfter, statusAfter, turn}
 use Rattle.vote.specs.Calls.{proposal, own-turn, delivery, suspicion, trusting as trustingCall, announcement, called}
 use Rattle.vote.specs.declared.board.Board.{Board}
@@ -32,8 +31,6 @@ use Rattle.vote.specs.declared.board.Status.{Status}
 use Rattle.vote.specs.declared.board.Status.the-variants.{Voting, Decided}
 use Rattle.vote.specs.declared.position.Position.{Position}
 use Rattle.vote.specs.declared.rule.Move.{Move}
-use Rattle.vote.specs.declared.rule.Move.the-variants.{Decides}
-use Rattle.vote.specs.declared.statement.Said.{Said}
 use Rattle.vote.specs.declared.statement.Said.the-variants.{Nothing, One}
 use Rattle.vote.specs.declared.statement.Statement.{Statement}
 use Rattle.vote.specs.declared.turn.Turn.{Turn}
@@ -45,7 +42,7 @@ use Rattle.bench.specs.Events.{proposing, turning, delivering, announcin
 use Rattle.bench.specs.Benches.{isSound, boardAt, signerAt, heardBy, signedBy}
 use Rattle.bench.specs.Setups.{Setup}
 use Rattle.bench.specs.Story.{Standing, hearing, hearingSaid, moveOf, saying, believing}
-use Rattle.bench.specs.Claim.{Proposes, Delivers, Announces, Asks, Sound, Faulty, TurnSigns, TurnDecides}
+use Rattle.bench.specs.Claim.{Delivers, Announces, Asks, Sound, Faulty, TurnSigns, TurnDecides}
 use Rattle.bench.specs.declared.bench.Bench.{Bench}
 use Rattle.bench.specs.Effects.{withBoardAt, withSignature, afterTurn, afterHearing}
 use Rattle.bench.specs.declared.event.Event.{Event}
@@ -62,7 +59,7 @@ use Rattle.bench.proofs.LegalLaws.{
   legal-trust,
   legal-signature,
 }
-use Rattle.bench.proofs.ChangeLaws.{Change, keeps-quiet, says, listens, lies, me, spoken, echoed, quiet-by, silent-turn, spoken-turn, heard-turn}
+use Rattle.bench.proofs.ChangeLaws.{Change, keeps-quiet, says, listens, lies, echoed, quiet-by, silent-turn, spoken-turn, heard-turn}
 use Rattle.bench.proofs.FitLaws.{Ground, Fit, board-there}
 use Rattle.bench.proofs.ReadingLaws.{Signs-new, Hears-new, newsOf, signs-itself, unheard}
 use Rattle.bench.proofs.StepLaws.{boardOf}

@@ -2,7 +2,7 @@
 -- sound board signs a statement and hears it, a sound board hears a statement that was signed, or a faulty board signs.
 -- Assumes nothing.
 use Prim.Native.Nat.{ℕ}
-use mathlib.Core.Path.{_≡_, refl, sym, ap, subst, subst⁻¹, _∙_}
+use mathlib.Core.Path.{_≡_, sym, ap, _∙_}
 use mathlib.Core.Bool.{true, false}
 use Rattle.signer.specs.FromOne.{isWithin}
 use Rattle.signer.specs.Log.{isIdentifier, entryOf}
@@ -11,28 +11,17 @@ use Rattle.delivery.specs.Limits.{Limits}
 use Rattle.delivery.specs.Owed.{afterSigning, afterDelivery}
 use Rattle.vote.specs.Boards.{hears}
 use Rattle.vote.specs.Turns.{turn}
-use Rattle.vote.specs.Calls.{Call, proposal, own-turn, delivery, suspicion, trusting, announcement, called}
+use Rattle.vote.specs.Calls.{Call, own-turn, delivery, called}
 use Rattle.vote.specs.declared.board.Board.{Board}
 use Rattle.vote.specs.declared.statement.Statement.{Statement}
 use Rattle.vote.specs.declared.statement.Said.the-variants.{Nothing, One}
-use Rattle.vote.proofs.BoardLaws.{propose-starts, deliver-hears, suspect-adds, trust-drops, reads-convinced, announce-decides}
-use Rattle.vote.proofs.SigningLaws.{Signs, Speech, silent, speaks, turn-speech}
-use Rattle.vote.proofs.LifeLaws.{called-proposal, called-turn, called-delivery, called-suspicion, called-trusting, called-announcement}
+use Rattle.vote.proofs.SigningLaws.{Signs}
+use Rattle.vote.proofs.LifeLaws.{called-turn}
 use Rattle.bench.specs.Benches.{isSound, boardAt, signerAt, heardBy, signedBy, holders}
-use Rattle.bench.specs.Effects.{withBoardAt, withSignature, withOwed, afterSaying, afterTurn, afterHearing}
+use Rattle.bench.specs.Effects.{withBoardAt, withSignature, withOwed, afterSaying, afterTurn}
 use Rattle.bench.specs.declared.bench.Bench.{Bench}
 use Rattle.bench.specs.declared.event.Event.{Event}
-use Rattle.bench.proofs.LegalLaws.{
-  Seated,
-  Legal,
-  legal-proposal,
-  legal-turn,
-  legal-delivery,
-  legal-announcement,
-  legal-suspicion,
-  legal-trust,
-  legal-signature,
-}
+use Rattle.bench.proofs.LegalLaws.{Seated}
 
 module _ (L : Limits) (c : Bench) (a : ℕ) where
   -- the board that the event is for

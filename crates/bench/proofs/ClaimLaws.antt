@@ -1,11 +1,11 @@
 -- Every list of events keeps its bench fit, tells what the bench shows, and has its values from sound boards or faulty
 -- coordinators; so demand 3 holds of it. Assumes nothing.
-use Prim.Native.Nat.{ℕ, zero, suc, _≤_, _-_}
+use Prim.Native.Nat.{ℕ, zero, suc, _≤_}
 use native.Mathlib.Omega.{arith}
 use mathlib.Core.Path.{_≡_, refl, sym, ap, subst, subst⁻¹, _∙_}
-use mathlib.Core.Bool.{true, false, true≢false}
+use mathlib.Core.Bool.{true, false}
 use mathlib.Core.List.{List, [], _∷_, _++_, append-nil, append-assoc}
-use mathlib.Core.Logic.{_⊎_, inl, inr, ⊎-elim, _↔_}
+use mathlib.Core.Logic.{_⊎_, inl, inr}
 use Rattle.signer.specs.Log.{isIdentifier, entryOf}
 use Rattle.signer.proofs.FromOneLaws.{within-low}
 use Rattle.signer.specs.Signer.{grants}
@@ -19,7 +19,6 @@ use Rattle.delivery.proofs.RoundLaws.{identifier-within}
 use Rattle.delivery.proofs.GrowthLaws.{won-grows}
 use Rattle.delivery.proofs.AgreementLaws.{Won, won-opened, won-one}
 use Rattle.vote.specs.Turns.{turn}
-use Rattle.vote.specs.declared.board.Board.{Board}
 use Rattle.vote.specs.declared.statement.Statement.{Statement}
 use Rattle.vote.specs.declared.statement.Said.the-variants.{One}
 use Rattle.vote.proofs.StatusLaws.{decisionOf}
@@ -33,11 +32,11 @@ use Rattle.bench.specs.Effects.{effectOf, isAccepted, stepOf}
 use Rattle.bench.specs.Runs.{after, answersTo}
 use Rattle.bench.specs.Shows.{decidedAs, shown}
 use Rattle.bench.specs.Story.{Entry, History, historyOf}
-use Rattle.bench.specs.Claim.{Sound, Delivered, Decided, Owed, Origin, NothingOwed, AllAlike, Shows, Agreement}
+use Rattle.bench.specs.Claim.{Sound, Delivered, Decided, Origin, NothingOwed, AllAlike, Shows, Agreement}
 use Rattle.bench.specs.declared.bench.Bench.{Bench}
 use Rattle.bench.specs.declared.event.Event.{Event}
 use Rattle.bench.proofs.AnswerLaws.{step-accepted, step-refused}
-use Rattle.bench.proofs.MomentLaws.{accepted, _then_}
+use Rattle.bench.proofs.MomentLaws.{_then_}
 use Rattle.bench.proofs.LegalLaws.{Legal, accepted-legal}
 use Rattle.bench.proofs.FitLaws.{Ground, Fit, Lacking, heard-signed, sound-within}
 use Rattle.bench.proofs.StepLaws.{suc-zero, change-fit}

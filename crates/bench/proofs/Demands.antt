@@ -3,7 +3,6 @@
 -- faulty.
 use Prim.Native.Nat.{ℕ}
 use mathlib.Core.Path.{_≡_, ap, _∙_, fun-ext}
-use mathlib.Core.Bool.{true}
 use mathlib.Core.List.{List, []}
 use Rattle.delivery.specs.Limits.{limits}
 use Rattle.bench.specs.Setups.{setup, freshBench, freshOf}

@@ -1,7 +1,7 @@
 -- What holds of every bench that was played from a fresh one, as far as it can be said of the bench alone. Assumes nothing.
 use Prim.Native.Nat.{ℕ, zero, suc, _≤_, _-_, _*_}
 use native.Mathlib.Omega.{arith}
-use mathlib.Core.Path.{_≡_, refl, sym, ap, subst, subst⁻¹, _∙_}
+use mathlib.Core.Path.{_≡_, refl, sym, subst, subst⁻¹, _∙_}
 use mathlib.Core.Bool.{true, false}
 use mathlib.Core.Logic.{_⊎_, inl, inr, ⊎-elim}
 use borrow.Author.Tests.{eqb-true, eqb-false}

@@ -1,33 +1,12 @@
 -- Laws of what a history says: with one entry more it says what it said, and what that entry adds. They know of no bench.
 -- Assumes nothing.
 use Prim.Native.Nat.{ℕ}
-use mathlib.Core.Path.{_≡_, refl, sym, ap, subst}
-use mathlib.Core.List.{[]}
+use mathlib.Core.Path.{_≡_, sym, ap, subst}
 use mathlib.Core.Logic.{_⊎_, inl, inr, ⊎-elim}
 use Rattle.delivery.specs.Limits.{Limits}
 use Rattle.bench.specs.Setups.{Setup}
 use Rattle.bench.specs.Story.{Entry, History, Standing, at}
-use Rattle.bench.specs.Claim.{
-  Moment,
-  Once,
-  Proposes,
-  Delivers,
-  Announces,
-  Asks,
-  Sound,
-  Faulty,
-  TurnSigns,
-  TurnDecides,
-  Proposed,
-  SignedInTurn,
-  Asked,
-  Signed,
-  Reached,
-  Delivered,
-  Decided,
-  Spreads,
-  Owed,
-}
+use Rattle.bench.specs.Claim.{Once, Delivers, Announces, Asks, Sound, Faulty, TurnSigns, TurnDecides, SignedInTurn, Asked, Signed, Reached, Delivered, Decided, Spreads, Owed}
 use Rattle.bench.specs.declared.event.Event.{Event}
 use Rattle.bench.proofs.MomentLaws.{accepted, _then_, Place, stands-last, stands-earlier, place, earlier, latest, once-kept, once-cases, once-new, once-none}
 

@@ -2,62 +2,35 @@
 -- Assumes nothing.
 use Prim.Native.Nat.{ℕ, zero, suc, _≤_, _<_}
 use native.Mathlib.Omega.{arith}
-use mathlib.Core.Path.{_≡_, refl, sym, ap, subst, _∙_}
+use mathlib.Core.Path.{_≡_, refl, sym, ap, _∙_}
 use mathlib.Core.Bool.{Bool, true, false, true≢false}
-use mathlib.Core.List.{List, [], _∷_}
-use mathlib.Core.Logic.{_⊎_, inl, inr, ⊎-elim}
-use borrow.Author.Tests.{eq-eqb, ne-eqb, eqb-true, eqb-false, ltb-false, leb-false}
-use lib.Dec.{eqb, leb, ltb}
+use mathlib.Core.List.{List, _∷_}
+use borrow.Author.Tests.{eqb-true, eqb-false, ltb-false, leb-false}
+use lib.Dec.{eqb}
 use Rattle.signer.specs.FromOne.{isWithin}
-use Rattle.signer.specs.Choice.{if_then_else_}
 use Rattle.signer.specs.Log.{isIdentifier, entryOf}
 use Rattle.signer.specs.Signer.{grants}
-use Rattle.signer.specs.declared.signer.Signer.{Signer}
 use Rattle.signer.proofs.ChoiceLaws.{if-true, if-false}
 use Rattle.signer.proofs.FromOneLaws.{within-low, within-high}
 use Rattle.signer.proofs.SignerLaws.{grants-above}
-use Rattle.delivery.specs.Tests.{_and_, _or_, neg}
+use Rattle.delivery.specs.Tests.{_or_}
 use Rattle.delivery.specs.Limits.{Limits}
 use Rattle.delivery.specs.Bus.{quorum}
-use Rattle.delivery.specs.Rounds.{isRound}
-use Rattle.delivery.proofs.TestLaws.{and-in, and-under, or-left, or-right, or-false-left, or-false-right, neg-in, neg-false}
+use Rattle.delivery.proofs.TestLaws.{and-under, or-left, or-right, or-false-left, or-false-right, neg-in, neg-false}
 use Rattle.vote.specs.Ballots.{tally}
 use Rattle.vote.specs.Boards.{isStarted, isDecided, isEnded, propose, suspect, trust}
 use Rattle.vote.specs.Turns.{turn}
 use Rattle.vote.specs.Announcements.{announce}
 use Rattle.vote.specs.declared.board.Board.{Board}
 use Rattle.vote.specs.declared.board.Status.the-variants.{Voting}
-use Rattle.vote.specs.declared.statement.Said.{Said}
-use Rattle.vote.specs.declared.statement.Said.the-variants.{Nothing, One}
+use Rattle.vote.specs.declared.statement.Said.the-variants.{One}
 use Rattle.vote.specs.declared.statement.Statement.{Statement}
 use Rattle.vote.proofs.StatusLaws.{going-voting}
 use Rattle.vote.proofs.BallotLaws.{tally-won}
 use Rattle.vote.proofs.BoardLaws.{Convinced}
 use Rattle.bench.specs.Events.{proposing, turning, delivering, announcing, suspecting, trusting, signing, usesOther}
 use Rattle.bench.specs.Benches.{isSound, boardAt, signerAt, heardBy, signedBy}
-use Rattle.bench.specs.Table.{
-  kindRow,
-  boardsRow,
-  wrongId,
-  wrongValue,
-  fieldsRow,
-  markRow,
-  pairRow,
-  startRow,
-  endRow,
-  signedRow,
-  lastRow,
-  deliveredRow,
-  announcerRow,
-  ballotsRow,
-  refuses,
-  isWaiting,
-  turnRow,
-  firstOf,
-  stateRows,
-  tableOf,
-  checkOf,
-}
+use Rattle.bench.specs.Table.{kindRow, boardsRow, wrongId, wrongValue, fieldsRow, markRow, startRow, endRow, signedRow, lastRow, deliveredRow, ballotsRow, refuses, turnRow, firstOf, checkOf}
 use Rattle.bench.specs.Effects.{withBoardAt, withSignature, afterTurn, afterHearing, effectOf, isAccepted}
 use Rattle.bench.proofs.EffectLaws.{
   effect-proposing,

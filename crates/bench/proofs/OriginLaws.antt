@@ -1,19 +1,16 @@
 -- Where the values come from: every estimate of a sound board, and every opening that one signs, was proposed by a sound
 -- board or opened by a faulty coordinator. Assumes nothing.
 use Prim.Native.Nat.{ℕ, _≤_}
-use native.Mathlib.Omega.{arith}
 use mathlib.Core.Path.{_≡_, refl, sym, ap, subst, subst⁻¹, _∙_}
 use mathlib.Core.Bool.{true, false, true≢false}
 use mathlib.Core.Logic.{_⊎_, inl, inr, ⊎-elim}
-use borrow.Author.Tests.{eqb-false}
-use lib.Dec.{eqb}
 use Rattle.signer.specs.FromOne.{isWithin}
 use Rattle.signer.specs.Log.{entryOf}
 use Rattle.signer.proofs.FromOneLaws.{within-in, within-zero}
 use Rattle.delivery.specs.Limits.{Limits}
 use Rattle.delivery.specs.Rounds.{isRound, coordinator, identifierOf}
 use Rattle.delivery.specs.Sets.{inSet}
-use Rattle.delivery.specs.declared.round.Phase.the-variants.{Opening, Ballot}
+use Rattle.delivery.specs.declared.round.Phase.the-variants.{Opening}
 use Rattle.delivery.proofs.TestLaws.{decided}
 use Rattle.delivery.proofs.RoundLaws.{coordinator-in, identifier-none, openings-apart}
 use Rattle.delivery.proofs.DeliveredLaws.{heard-outside}
@@ -22,7 +19,6 @@ use Rattle.vote.specs.Boards.{isStarted}
 use Rattle.vote.specs.Turns.{positionAfter, turn}
 use Rattle.vote.specs.declared.board.Board.{Board}
 use Rattle.vote.specs.declared.board.Status.the-variants.{Voting}
-use Rattle.vote.specs.declared.rule.Move.{Move}
 use Rattle.vote.specs.declared.statement.Said.the-variants.{One}
 use Rattle.vote.specs.declared.statement.Statement.{Statement}
 use Rattle.vote.proofs.StatusLaws.{started-voting}
@@ -34,26 +30,15 @@ use Rattle.bench.specs.Events.{proposing, turning, delivering, announcin
 use Rattle.bench.specs.Benches.{isSound, boardAt, heardBy, signedBy}
 use Rattle.bench.specs.Setups.{Setup}
 use Rattle.bench.specs.Story.{Entry, History, Standing, moveOf, saying, believing}
-use Rattle.bench.specs.Claim.{Proposes, Asks, Sound, Faulty, TurnSigns, Origin, was-proposed, was-opened}
+use Rattle.bench.specs.Claim.{Asks, Sound, Faulty, TurnSigns, Origin, was-proposed, was-opened}
 use Rattle.bench.specs.declared.bench.Bench.{Bench}
 use Rattle.bench.specs.declared.event.Event.{Event}
 use Rattle.bench.proofs.MomentLaws.{accepted, _then_, once-kept, once-new}
 use Rattle.bench.proofs.HistoryLaws.{SignsNow, signed-kept}
-use Rattle.bench.proofs.LegalLaws.{
-  clash,
-  Seated,
-  Legal,
-  legal-proposal,
-  legal-turn,
-  legal-delivery,
-  legal-announcement,
-  legal-suspicion,
-  legal-trust,
-  legal-signature,
-}
+use Rattle.bench.proofs.LegalLaws.{clash, Legal, legal-proposal, legal-turn, legal-delivery, legal-announcement, legal-suspicion, legal-trust, legal-signature}
 use Rattle.bench.proofs.FitLaws.{Ground, Fit}
 use Rattle.bench.proofs.ReadingLaws.{Signs-new, newsOf, change-reads}
-use Rattle.bench.proofs.StepLaws.{suc-zero, boardOf, every-board, same-soundness}
+use Rattle.bench.proofs.StepLaws.{suc-zero, every-board, same-soundness}
 use Rattle.bench.proofs.AccountLaws.{
   standingOf,
   turn-says,

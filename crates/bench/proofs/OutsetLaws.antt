@@ -1,26 +1,23 @@
 -- Before the first event: the empty history tells what a fresh bench shows, which is nothing. Assumes nothing.
 use Prim.Native.Nat.{ℕ}
 use native.Mathlib.Omega.{arith}
-use mathlib.Core.Path.{_≡_, refl, sym, ap, _∙_, fun-ext}
+use mathlib.Core.Path.{_≡_, sym, ap, _∙_, fun-ext}
 use mathlib.Core.Bool.{true, true≢false}
 use mathlib.Core.List.{[]}
-use mathlib.Core.Logic.{_⊎_, inl, inr, ⊎-elim}
-use Rattle.signer.specs.Log.{entryOf}
+use mathlib.Core.Logic.{_⊎_, ⊎-elim}
 use Rattle.delivery.specs.Limits.{Limits}
 use Rattle.delivery.specs.Sets.{inSet}
-use Rattle.delivery.specs.Owed.{receivers}
 use Rattle.delivery.specs.Delivered.{Store}
 use Rattle.delivery.proofs.SetLaws.{in-none}
 use Rattle.delivery.proofs.OwedLaws.{owed-nothing}
 use Rattle.vote.specs.Boards.{freshPosition}
 use Rattle.vote.specs.declared.board.Board.{Board}
-use Rattle.vote.specs.declared.board.Status.the-variants.{Decided as decided-with}
 use Rattle.vote.specs.declared.position.Position.{Position}
 use Rattle.vote.proofs.StatusLaws.{idle-decided, decisionOf}
 use Rattle.vote.proofs.BoardLaws.{fresh-position, fresh-status, fresh-estimate}
-use Rattle.bench.specs.Benches.{boardAt, heardBy, signedBy}
+use Rattle.bench.specs.Benches.{boardAt, heardBy}
 use Rattle.bench.specs.Setups.{Setup, benchOf}
-use Rattle.bench.specs.Story.{Standing, outset, at}
+use Rattle.bench.specs.Story.{outset, at}
 use Rattle.bench.specs.Claim.{Sound, Faulty, SignedInTurn, Asked, Signed, Reached, Delivered, Decided, Owed}
 use Rattle.bench.specs.declared.bench.Bench.{Bench}
 use Rattle.bench.proofs.BenchLaws.{board-fresh}
@@ -28,7 +25,6 @@ use Rattle.bench.proofs.MomentLaws.{moment-none, once-none, at-none}
 use Rattle.bench.proofs.SetupLaws.{heard-fresh, signed-fresh, fresh-fit}
 use Rattle.bench.proofs.AccountLaws.{standingOf}
 use Rattle.bench.proofs.TellsLaws.{Tells}
-use Rattle.bench.proofs.OriginLaws.{Rooted}
 use Rattle.bench.proofs.ClaimLaws.{Sure}
 
 module _ (L : Limits) (S : Setup) where

@@ -7,7 +7,6 @@ use mathlib.Core.Bool.{true, false, true≢false}
 use mathlib.Core.Logic.{_⊎_, inl, inr, ⊎-elim, _↔_}
 use borrow.Author.Tests.{eq-eqb, eqb-true}
 use lib.Dec.{eqb}
-use Rattle.signer.specs.FromOne.{isWithin}
 use Rattle.signer.specs.Log.{isIdentifier}
 use Rattle.signer.proofs.FromOneLaws.{within-low, within-high}
 use Rattle.signer.proofs.SignerLaws.{grants-only}
@@ -16,7 +15,7 @@ use Rattle.delivery.specs.Limits.{Limits}
 use Rattle.delivery.specs.Bus.{isBoard}
 use Rattle.delivery.specs.Sets.{inSet, bits}
 use Rattle.delivery.specs.Owed.{receivers, afterSigning, afterDelivery}
-use Rattle.delivery.proofs.TestLaws.{neg-true, neg-no, neg-false, fails}
+use Rattle.delivery.proofs.TestLaws.{neg-no, neg-false, fails}
 use Rattle.delivery.proofs.SetLaws.{in-setOf-within, in-setOf-passes}
 use Rattle.delivery.proofs.OwedLaws.{signing-there, delivery-there}
 use Rattle.delivery.proofs.EchoLaws.{Lacks, signing-owes, signing-only, delivery-owes, delivery-only}
@@ -27,8 +26,8 @@ use Rattle.bench.specs.Setups.{Setup}
 use Rattle.bench.specs.Effects.{withBoardAt, withSignature, withOwed}
 use Rattle.bench.specs.declared.bench.Bench.{Bench}
 use Rattle.bench.proofs.ChangeLaws.{Change, keeps-quiet, says, listens, lies}
-use Rattle.bench.proofs.FitLaws.{same-or-not, Ground, Fit, Lacking, board-there, sound-within}
-use Rattle.bench.proofs.ReadingLaws.{News, no-news, said, overheard, forged, Hears-new, newsOf, unheard}
+use Rattle.bench.proofs.FitLaws.{same-or-not, Ground, Fit, board-there, sound-within}
+use Rattle.bench.proofs.ReadingLaws.{News, no-news, said, overheard, forged, Hears-new, newsOf}
 
 -- the news is a statement of s under i, that could be new to k
 unfoldable pub Spreads-new : ℕ → News → ℕ → ℕ → ℕ → Type 0

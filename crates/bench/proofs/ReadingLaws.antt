@@ -1,44 +1,34 @@
 -- What is read off a bench after a change: what was read before, and what is new. Assumes nothing.
-use Prim.Native.Nat.{ℕ, zero, suc, _≤_}
+use Prim.Native.Nat.{ℕ, zero, suc}
 use native.Mathlib.Omega.{arith}
 use mathlib.Core.Path.{_≡_, refl, sym, ap, subst, subst⁻¹, _∙_}
-use mathlib.Core.Bool.{Bool, true, false}
+use mathlib.Core.Bool.{true}
 use mathlib.Core.Logic.{_⊎_, inl, inr, ⊎-elim}
-use borrow.Author.Tests.{eq-eqb, eqb-true}
-use lib.Dec.{eqb}
 use lib.ListN.{length}
 use Rattle.signer.specs.FromOne.{isWithin, nth}
 use Rattle.signer.specs.Log.{isIdentifier, entryOf, entryAt}
 use Rattle.signer.specs.Signer.{grants, sign}
 use Rattle.signer.specs.declared.signer.Signer.{Signer}
-use Rattle.signer.proofs.FromOneLaws.{within-low, within-high}
-use Rattle.signer.proofs.SignerLaws.{WellFormed, grants-only, sign-stands, sign-keeps, sign-only}
-use Rattle.delivery.specs.Tests.{neg}
+use Rattle.signer.proofs.SignerLaws.{grants-only, sign-stands, sign-keeps, sign-only}
 use Rattle.delivery.specs.Limits.{Limits}
 use Rattle.delivery.specs.Bus.{isBoard}
-use Rattle.delivery.specs.Sets.{inSet, setOf, bits}
 use Rattle.delivery.specs.Delivered.{heard, deliver}
-use Rattle.delivery.specs.Owed.{receivers, afterSigning, afterDelivery}
 use Rattle.delivery.specs.declared.delivered.Delivered.{Delivered}
-use Rattle.delivery.proofs.TestLaws.{neg-true, neg-no, neg-false, fails}
-use Rattle.delivery.proofs.SetLaws.{in-setOf-within, in-setOf-passes}
 use Rattle.delivery.proofs.DeliveredLaws.{deliver-same, deliver-only, deliver-keeps}
-use Rattle.delivery.proofs.OwedLaws.{signing-there, delivery-there}
-use Rattle.delivery.proofs.EchoLaws.{Lacks, signing-owes, signing-only, delivery-owes, delivery-only}
-use Rattle.vote.specs.Boards.{freshBoard, hears, deliverTo}
+use Rattle.vote.specs.Boards.{freshBoard, hears}
 use Rattle.vote.specs.Calls.{own-turn, delivery, called}
 use Rattle.vote.specs.declared.board.Board.{Board}
 use Rattle.vote.specs.declared.statement.Statement.{Statement}
 use Rattle.vote.proofs.BoardLaws.{hears-delivers, deliver-hears}
 use Rattle.vote.proofs.SigningLaws.{Signs, signs-opening, signs-ballot}
 use Rattle.vote.proofs.LifeLaws.{called-delivery}
-use Rattle.bench.specs.Benches.{isSound, boardAt, signerAt, heardBy, signedBy, holders}
+use Rattle.bench.specs.Benches.{boardAt, signerAt, heardBy, signedBy}
 use Rattle.bench.specs.Setups.{Setup}
 use Rattle.bench.specs.Effects.{withBoardAt, withSignature, withOwed}
 use Rattle.bench.specs.declared.bench.Bench.{Bench}
 use Rattle.bench.proofs.BenchLaws.{board-same, board-other, signer-same, signer-other}
 use Rattle.bench.proofs.ChangeLaws.{Change, keeps-quiet, says, listens, lies, me, spoken, echoed}
-use Rattle.bench.proofs.FitLaws.{same-or-not, Ground, Fit, Lacking, board-there, sound-within}
+use Rattle.bench.proofs.FitLaws.{same-or-not, Ground, Fit, board-there}
 
 suc-one : (v w : ℕ) → entryOf v ≡ entryOf w → v ≡ w
 suc-one v w e = omega (arith, e)

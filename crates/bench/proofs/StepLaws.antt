@@ -24,14 +24,14 @@ use Rattle.vote.specs.declared.statement.Said.the-variants.{One}
 use Rattle.vote.proofs.ProperLaws.{Proper, voting-round, called-proper}
 use Rattle.vote.proofs.SigningLaws.{due, signed-past}
 use Rattle.vote.proofs.LifeLaws.{Grounded, called-turn, called-grounded, called-due}
-use Rattle.bench.specs.Benches.{isSound, boardAt, signerAt, heardBy, signedBy, holders}
+use Rattle.bench.specs.Benches.{isSound, boardAt, signerAt, heardBy, signedBy}
 use Rattle.bench.specs.Setups.{Setup}
 use Rattle.bench.specs.Effects.{withBoardAt, withSignature, withOwed}
 use Rattle.bench.specs.declared.bench.Bench.{Bench}
 use Rattle.bench.proofs.BenchLaws.{signer-same, signer-other}
 use Rattle.bench.proofs.ChangeLaws.{Change, keeps-quiet, says, listens, lies, me, spoken, echoed}
 use Rattle.bench.proofs.FitLaws.{same-or-not, Ground, Fit, Lacking, board-there}
-use Rattle.bench.proofs.ReadingLaws.{News, no-news, said, overheard, forged, Signs-new, Hears-new, Reads, newsOf, unheard, change-reads, each-board}
+use Rattle.bench.proofs.ReadingLaws.{Signs-new, Hears-new, Reads, newsOf, unheard, change-reads, each-board}
 use Rattle.bench.proofs.OwingLaws.{Spreads-new, Lacks-it, Owes, change-owes}
 
 pub suc-zero : (v : ℕ) → entryOf v ≡ 0 → ⊥

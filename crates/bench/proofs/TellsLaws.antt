@@ -55,21 +55,10 @@ use Rattle.bench.proofs.HistoryLaws.{
   owed-cases,
   owed-new,
 }
-use Rattle.bench.proofs.ChangeLaws.{Change}
-use Rattle.bench.proofs.FitLaws.{same-or-not, Ground, Fit, Lacking}
+use Rattle.bench.proofs.FitLaws.{Ground, Fit, Lacking}
 use Rattle.bench.proofs.ReadingLaws.{News, Signs-new, Hears-new, Reads, newsOf, change-reads}
 use Rattle.bench.proofs.OwingLaws.{Spreads-new, Lacks-it, Owes, change-owes}
-use Rattle.bench.proofs.StepLaws.{
-  suc-zero,
-  hears-signs,
-  spreads-hears,
-  hears-spreads,
-  boardOf,
-  every-board,
-  heard-new-signed,
-  new-unheard,
-  same-soundness,
-}
+use Rattle.bench.proofs.StepLaws.{suc-zero, hears-signs, spreads-hears, hears-spreads, every-board, heard-new-signed, new-unheard, same-soundness}
 use Rattle.bench.proofs.AccountLaws.{standingOf, Account}
 
 -- what is read off the bench is what the history says

@@ -6,7 +6,7 @@ use mathlib.Core.List.{List, [], _∷_}
 use mathlib.Core.Logic.{_⊎_}
 use lib.ListN.{length}
 use Rattle.signer.specs.Signer.{grants}
-use Rattle.delivery.specs.Limits.{Limits, limits}
+use Rattle.delivery.specs.Limits.{limits}
 use Rattle.vote.specs.Turns.{turn}
 use Rattle.vote.specs.declared.statement.Statement.{Statement}
 use Rattle.vote.specs.declared.statement.Said.the-variants.{One}

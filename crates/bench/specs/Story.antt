@@ -1,7 +1,6 @@
 -- Document 01, "Events", on agreement: what a list of events and its answers says by itself. No bench is looked at, and
 -- no row of the table: every event that was answered 0 is believed, whatever its fields hold, and no other is.
 use Prim.Native.Nat.{ℕ}
-use mathlib.Core.Bool.{Bool}
 use mathlib.Core.List.{List, [], _∷_}
 use lib.Dec.{eqb}
 use Rattle.signer.specs.Choice.{if_then_else_}

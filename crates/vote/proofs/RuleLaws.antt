@@ -10,7 +10,7 @@ use mathlib.Core.Logic.{_⊎_, inl, inr, ⊎-elim}
 use lib.Dec.{eqb, leb, ltb}
 use Rattle.signer.specs.Choice.{if_then_else_}
 use Rattle.signer.proofs.ChoiceLaws.{if-true, if-false}
-use Rattle.delivery.specs.Tests.{_and_, _or_, neg}
+use Rattle.delivery.specs.Tests.{_or_, neg}
 use Rattle.delivery.specs.Counting.{countIn, everyIn}
 use Rattle.delivery.specs.Limits.{Limits}
 use Rattle.delivery.specs.Bus.{quorum, overlap}
