@@ -6,6 +6,7 @@ pub mod BenchLaws
 pub mod AnswerLaws
 pub mod RunLaws
 pub mod ShowLaws
+pub mod ExampleLaws
 pub mod MomentLaws
 pub mod HistoryLaws
 pub mod LegalLaws

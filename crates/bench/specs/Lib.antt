@@ -10,6 +10,7 @@ pub mod Table
 pub mod Effects
 pub mod Runs
 pub mod Shows
+pub mod Examples
 pub mod Story
 pub mod Claim
 pub mod Demands
