@@ -74,36 +74,45 @@ rooted-refused L S H c x o =
 module _ (L : Limits) (S : Setup) (g : Ground L S) (H : History) (c : Bench) (f : Fit L S c) (y : Tells L S H c) (o : Rooted L S H c) where
   -- an opening that a board has heard from the round's coordinator has an origin
   pub opened-origin : (k r v : ℕ) → heardBy L c k (coordinator (c .n) r) (identifierOf L Opening r) ≡ entryOf v → Origin L S H v
-  opened-origin k r v e = go (decided (isRound L r)) (decided (isSound c p))
+  opened-origin k r v e = go (decided (isRound L r)) (decided (isSound c (coordinator (c .n) r)))
     where
-      p : ℕ
-      p = coordinator (c .n) r
+      faulty : isSound c (coordinator (c .n) r) ≡ false → Faulty L S (coordinator (c .n) r)
+      faulty s =
+          let q = coordinator-in (c .n) r (subst⁻¹ (λ (m : ℕ). 1 ≤ m) (f .same-n) (g .some-board)) in (
+            subst
+                (λ (m : ℕ). isWithin m (coordinator (c .n) r) ≡ true)
+                (f .same-n)
+                (within-in (c .n) (coordinator (c .n) r) (q .0) (q .1)),
+            subst (λ (m : ℕ). inSet m (coordinator (c .n) r) ≡ false) (f .same-sound) s,
+          )
 
-      there : isWithin (c .n) (coordinator (c .n) r) ≡ true
-      there =
-          let q = coordinator-in (c .n) r (subst⁻¹ (λ (m : ℕ). 1 ≤ m) (f .same-n) (g .some-board)) in
-          within-in (c .n) (coordinator (c .n) r) (q .0) (q .1)
+      signed : signedBy L c (coordinator (c .n) r) (identifierOf L Opening r) ≡ entryOf v
+      signed = f .told k (coordinator (c .n) r) (identifierOf L Opening r) v e
 
-      go : (isRound L r ≡ true) ⊎ (isRound L r ≡ false) → (isSound c (coordinator (c .n) r) ≡ true) ⊎ (isSound c (coordinator (c .n) r) ≡ false)
-          → Origin L S H v
-      go (inl i) (inl s) = o .openings (coordinator (c .n) r) r v s i (f .told k (coordinator (c .n) r) (identifierOf L Opening r) v e)
+      go : (isRound L r ≡ true) ⊎ (isRound L r ≡ false)
+          → (isSound c (coordinator (c .n) r) ≡ true) ⊎ (isSound c (coordinator (c .n) r) ≡ false) → Origin L S H v
+      go (inl i) (inl s) = o .openings (coordinator (c .n) r) r v s i signed
       go (inl i) (inr s) =
           was-opened
           (coordinator (c .n) r)
-          r (
-            subst (λ (m : ℕ). isWithin m (coordinator (c .n) r) ≡ true) (f .same-n) there,
-            subst (λ (m : ℕ). inSet m (coordinator (c .n) r) ≡ false) (f .same-sound) s,
-          )
+          r
+          (faulty s)
           i
           (ap (λ (m : ℕ). coordinator m r) (sym (f .same-n)))
-          (y .signed (coordinator (c .n) r) (identifierOf L Opening r) v .1 (f .told k (coordinator (c .n) r) (identifierOf L Opening r) v e))
+          (y .signed (coordinator (c .n) r) (identifierOf L Opening r) v .1 signed)
       go (inr i) s =
           absurd
           (suc-zero
           v
           (sym e
           ∙ ap (heardBy L c k (coordinator (c .n) r)) (identifier-none L Opening r i)
-          ∙ heard-outside L (boardAt L c k .delivered) (coordinator (c .n) r) 0 (f .proper k .whole) (within-zero (L .identifiers) 0 refl)))
+          ∙ heard-outside
+          L
+          (boardAt L c k .delivered)
+          (coordinator (c .n) r)
+          0
+          (f .proper k .whole)
+          (within-zero (L .identifiers) 0 refl)))
 
   module _ (e : Event) (c′ : Bench) (l : Legal L c e c′) (w : Account L S c e c′) where
     abbrev a : ℕ
