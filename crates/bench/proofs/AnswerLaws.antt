@@ -1,17 +1,19 @@
 -- Laws of the answers to an event: 0 is that of an accepted one alone, and what then comes of the bench. Assumes nothing.
 use Prim.Native.Nat.{_≤_}
 use native.Mathlib.Omega.{arith}
-use mathlib.Core.Path.{_≡_, refl, ap, sym, _∙_}
-use mathlib.Core.Bool.{true, false, true≢false}
+use borrow.Author.Tests.{eqb-true, eqb-false, ne-eqb}
+use mathlib.Core.Path.{_≡_, refl}
+use mathlib.Core.Bool.{true, false}
 use mathlib.Core.Logic.{_⊎_, inl, inr, ⊎-elim}
 use Rattle.signer.proofs.ChoiceLaws.{if-true, if-false}
 use Rattle.delivery.specs.Limits.{Limits}
 use Rattle.delivery.proofs.TestLaws.{decided}
-use Rattle.vote.proofs.TurnLaws.{number-done, number-within, number-some, idle-not, ended-not, waiting-not}
+use Rattle.vote.specs.Turns.{numberOf}
+use Rattle.vote.proofs.TurnLaws.{number-within, number-some, idle-not, ended-not, waiting-not}
 use Rattle.vote.specs.declared.turn.Answer.the-variants.{Done, NotStarted, Ended, Waiting}
-use Rattle.bench.specs.Answers.{freshNumber, answerNumber}
+use Rattle.bench.specs.Answers.{freshNumber, answerNumber, isAccepted}
 use Rattle.bench.specs.Table.{checkOf}
-use Rattle.bench.specs.Effects.{effectOf, isAccepted, stepOf}
+use Rattle.bench.specs.Effects.{effectOf, stepOf}
 use Rattle.bench.specs.Demands.{IsEventRow}
 use Rattle.bench.specs.declared.bench.Bench.{Bench}
 use Rattle.bench.specs.declared.answer.FreshAnswer.{FreshAnswer}
@@ -35,61 +37,35 @@ use Rattle.bench.specs.declared.answer.Answer.the-variants.{
   MustWait,
 }
 
--- an accepted event is answered 0, and no other is
-pub accepted-zero : answerNumber Accepted ≡ 0
-unfolding answerNumber
-accepted-zero = number-done
+-- what a board answers to a turn that it does not take refuses the event
+pub start-refused : isAccepted WrongStart ≡ false
+unfolding isAccepted answerNumber
+start-refused = ne-eqb (numberOf NotStarted) 0 (λ e. idle-not (number-some NotStarted e))
 
-pub zero-accepted : (a : Answer) → answerNumber a ≡ 0 → isAccepted a ≡ true
-unfolding answerNumber isAccepted
-zero-accepted Accepted e = refl
-zero-accepted NoKind e = absurd (omega (arith, e))
-zero-accepted NoBoard e = absurd (omega (arith, e))
-zero-accepted WrongField e = absurd (omega (arith, e))
-zero-accepted WrongMark e = absurd (omega (arith, e))
-zero-accepted SameBoard e = absurd (omega (arith, e))
-zero-accepted WrongStart e = absurd (idle-not (number-some NotStarted e))
-zero-accepted AtEnd e = absurd (ended-not (number-some Ended e))
-zero-accepted NotSigned e = absurd (omega (arith, e))
-zero-accepted NotAbove e = absurd (omega (arith, e))
-zero-accepted HasIt e = absurd (omega (arith, e))
-zero-accepted NotDecided e = absurd (omega (arith, e))
-zero-accepted FewBallots e = absurd (omega (arith, e))
-zero-accepted MustWait e = absurd (waiting-not (number-some Waiting e))
+pub end-refused : isAccepted AtEnd ≡ false
+unfolding isAccepted answerNumber
+end-refused = ne-eqb (numberOf Ended) 0 (λ e. ended-not (number-some Ended e))
 
-accepted-is : (a : Answer) → isAccepted a ≡ true → a ≡ Accepted
-unfolding isAccepted
-accepted-is Accepted t = refl
-accepted-is NoKind t = absurd (true≢false (sym t))
-accepted-is NoBoard t = absurd (true≢false (sym t))
-accepted-is WrongField t = absurd (true≢false (sym t))
-accepted-is WrongMark t = absurd (true≢false (sym t))
-accepted-is SameBoard t = absurd (true≢false (sym t))
-accepted-is WrongStart t = absurd (true≢false (sym t))
-accepted-is AtEnd t = absurd (true≢false (sym t))
-accepted-is NotSigned t = absurd (true≢false (sym t))
-accepted-is NotAbove t = absurd (true≢false (sym t))
-accepted-is HasIt t = absurd (true≢false (sym t))
-accepted-is NotDecided t = absurd (true≢false (sym t))
-accepted-is FewBallots t = absurd (true≢false (sym t))
-accepted-is MustWait t = absurd (true≢false (sym t))
+pub wait-refused : isAccepted MustWait ≡ false
+unfolding isAccepted answerNumber
+wait-refused = ne-eqb (numberOf Waiting) 0 (λ e. waiting-not (number-some Waiting e))
 
 -- an accepted event has its effect and is answered 0; a refused one leaves the bench as it was, and is not answered 0
 module _ (L : Limits) (c : Bench) (e : Event) where
   pub step-accepted : isAccepted (checkOf L c e) ≡ true
       → (stepOf L c e .bench ≡ effectOf L c e) × (answerNumber (stepOf L c e .answer) ≡ 0)
-  unfolding stepOf
+  unfolding stepOf isAccepted
   step-accepted t = (
     if-true (isAccepted (checkOf L c e)) (effectOf L c e) c t,
-    ap answerNumber (accepted-is (checkOf L c e) t) ∙ accepted-zero,
+    eqb-true (answerNumber (checkOf L c e)) 0 t,
   )
 
   pub step-refused : isAccepted (checkOf L c e) ≡ false
       → (stepOf L c e .bench ≡ c) × (answerNumber (stepOf L c e .answer) ≡ 0 → ⊥)
-  unfolding stepOf
+  unfolding stepOf isAccepted
   step-refused f = (
     if-false (isAccepted (checkOf L c e)) (effectOf L c e) c f,
-    λ z. true≢false (sym (zero-accepted (checkOf L c e) z) ∙ f),
+    eqb-false (answerNumber (checkOf L c e)) 0 f,
   )
 
 -- every answer's number is 0 or that of a row

@@ -26,9 +26,9 @@ use Rattle.vote.proofs.ProperLaws.{voting-round}
 use Rattle.vote.proofs.SigningLaws.{Signs, signs-opening, signs-ballot, due, signs-due, turn-signs}
 use Rattle.bench.specs.Benches.{isSound, boardAt, signerAt, heardBy, signedBy}
 use Rattle.bench.specs.Setups.{Setup, setup}
-use Rattle.bench.specs.Answers.{answerNumber}
+use Rattle.bench.specs.Answers.{answerNumber, isAccepted}
 use Rattle.bench.specs.Table.{checkOf}
-use Rattle.bench.specs.Effects.{effectOf, isAccepted, stepOf}
+use Rattle.bench.specs.Effects.{effectOf, stepOf}
 use Rattle.bench.specs.Runs.{after, answersTo}
 use Rattle.bench.specs.Shows.{decidedAs, shown}
 use Rattle.bench.specs.Story.{Entry, History, historyOf}

@@ -19,9 +19,9 @@ use Rattle.vote.specs.Announcements.{convinced, announce}
 use Rattle.bench.specs.Events.{usesOther, usesId, usesValue}
 use Rattle.bench.specs.Benches.{boardAt, signerAt, signedBy, holders}
 use Rattle.bench.specs.Setups.{isMark, isMarkedSound, freshAnswer, setupBy, benchOf, freshBench}
-use Rattle.bench.specs.Answers.{answerNumber}
+use Rattle.bench.specs.Answers.{answerNumber, isAccepted}
 use Rattle.bench.specs.Table.{kindRow, boardsRow, wrongOther, wrongId, wrongValue, fieldsRow, markRow, pairRow, isWaiting, refuses, startRow, endRow, signedRow, lastRow, deliveredRow, announcerRow, ballotsRow, turnRow, firstOf, checkOf}
-use Rattle.bench.specs.Effects.{withBoardAt, withSignature, withOwed, afterSaying, afterTurn, afterHearing, effectOf, isAccepted, stepOf}
+use Rattle.bench.specs.Effects.{withBoardAt, withSignature, withOwed, afterSaying, afterTurn, afterHearing, effectOf, stepOf}
 use Rattle.bench.specs.Runs.{after, answersTo}
 use Rattle.bench.specs.Shows.{standing, shown}
 use Rattle.bench.specs.Examples.{Examples}

@@ -30,8 +30,10 @@ use Rattle.vote.proofs.BallotLaws.{tally-won}
 use Rattle.vote.proofs.BoardLaws.{Convinced}
 use Rattle.bench.specs.Events.{proposing, turning, delivering, announcing, suspecting, trusting, signing, usesOther}
 use Rattle.bench.specs.Benches.{isSound, boardAt, signerAt, heardBy, signedBy}
+use Rattle.bench.specs.Answers.{answerNumber, isAccepted}
 use Rattle.bench.specs.Table.{kindRow, boardsRow, wrongId, wrongValue, fieldsRow, markRow, startRow, endRow, signedRow, lastRow, deliveredRow, ballotsRow, refuses, turnRow, firstOf, checkOf}
-use Rattle.bench.specs.Effects.{withBoardAt, withSignature, afterTurn, afterHearing, effectOf, isAccepted}
+use Rattle.bench.specs.Effects.{withBoardAt, withSignature, afterTurn, afterHearing, effectOf}
+use Rattle.bench.proofs.AnswerLaws.{start-refused, end-refused, wait-refused}
 use Rattle.bench.proofs.EffectLaws.{
   effect-proposing,
   effect-turning,
@@ -70,21 +72,21 @@ pub record Passed (L : Limits) (c : Bench) (e : Event) : Type 0 where
   pub turn : turnRow L c e ≡ false
 
 pub accepted-passed : (L : Limits) (c : Bench) (e : Event) → isAccepted (checkOf L c e) ≡ true → Passed L c e
-unfolding checkOf isAccepted
+unfolding checkOf isAccepted answerNumber
 accepted-passed L c e t =
     let p1 = first-passed _ _ refl t in
     let p2 = first-passed _ _ refl (p1 .1) in
     let p3 = first-passed _ _ refl (p2 .1) in
     let p4 = first-passed _ _ refl (p3 .1) in
     let p5 = first-passed _ _ refl (p4 .1) in
-    let p6 = first-passed _ _ refl (p5 .1) in
-    let p8 = first-passed _ _ refl (p6 .1) in
+    let p6 = first-passed _ _ start-refused (p5 .1) in
+    let p8 = first-passed _ _ end-refused (p6 .1) in
     let p9 = first-passed _ _ refl (p8 .1) in
     let p10 = first-passed _ _ refl (p9 .1) in
     let p11 = first-passed _ _ refl (p10 .1) in
     let p12 = first-passed _ _ refl (p11 .1) in
     let p13 = first-passed _ _ refl (p12 .1) in
-    let p14 = first-passed _ _ refl (p13 .1) in
+    let p14 = first-passed _ _ wait-refused (p13 .1) in
     record {
       kind = p1 .0;
       boards = p2 .0;

@@ -1,5 +1,7 @@
 -- Document 01, "Where an event or file stops": the answers and their numbers in its table.
 use Prim.Native.Nat.{ℕ}
+use mathlib.Core.Bool.{Bool}
+use lib.Dec.{eqb}
 use Rattle.vote.specs.Turns.{numberOf}
 use Rattle.vote.specs.declared.turn.Answer.the-variants.{Done, NotStarted, Ended, Waiting}
 use Rattle.bench.specs.declared.answer.Answer.{Answer}
@@ -44,3 +46,7 @@ answerNumber HasIt = 19
 answerNumber NotDecided = 20
 answerNumber FewBallots = 21
 answerNumber MustWait = numberOf Waiting
+
+-- an event is accepted if it is answered 0
+unfoldable pub isAccepted : Answer → Bool
+isAccepted a = eqb (answerNumber a) 0

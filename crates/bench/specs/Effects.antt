@@ -1,6 +1,5 @@
 -- Document 01, "Events": what an accepted event does, and an event as a whole.
 use Prim.Native.Nat.{ℕ}
-use mathlib.Core.Bool.{Bool, true, false}
 use lib.Dec.{eqb}
 use Rattle.signer.specs.FromOne.{setNth}
 use Rattle.signer.specs.Choice.{if_then_else_}
@@ -17,27 +16,11 @@ use Rattle.vote.specs.declared.statement.Said.{Said}
 use Rattle.vote.specs.declared.statement.Said.the-variants.{Nothing, One}
 use Rattle.bench.specs.Events.{proposing, turning, delivering, announcing, suspecting, trusting}
 use Rattle.bench.specs.Benches.{boardAt, signerAt, holders}
+use Rattle.bench.specs.Answers.{isAccepted}
 use Rattle.bench.specs.Table.{checkOf}
 use Rattle.bench.specs.declared.bench.Bench.{Bench}
 use Rattle.bench.specs.declared.event.Event.{Event}
 use Rattle.bench.specs.declared.effect.Outcome.{Outcome}
-use Rattle.bench.specs.declared.answer.Answer.{Answer}
-use Rattle.bench.specs.declared.answer.Answer.the-variants.{
-  Accepted,
-  NoKind,
-  NoBoard,
-  WrongField,
-  WrongMark,
-  SameBoard,
-  WrongStart,
-  AtEnd,
-  NotSigned,
-  NotAbove,
-  HasIt,
-  NotDecided,
-  FewBallots,
-  MustWait,
-}
 
 -- the bench with another board k, with board k's signer asked for a signature, and with other copies owed
 unfoldable pub withBoardAt : Bench → ℕ → Board → Bench
@@ -91,22 +74,6 @@ effectOf L c e =
     else if eqb (e .kind) suspecting then withBoardAt c (e .a) (suspect board (e .b))
     else if eqb (e .kind) trusting then withBoardAt c (e .a) (trust board (e .b))
     else withSignature L c (e .a) (e .id) (e .value)
-
-unfoldable pub isAccepted : Answer → Bool
-isAccepted Accepted = true
-isAccepted NoKind = false
-isAccepted NoBoard = false
-isAccepted WrongField = false
-isAccepted WrongMark = false
-isAccepted SameBoard = false
-isAccepted WrongStart = false
-isAccepted AtEnd = false
-isAccepted NotSigned = false
-isAccepted NotAbove = false
-isAccepted HasIt = false
-isAccepted NotDecided = false
-isAccepted FewBallots = false
-isAccepted MustWait = false
 
 -- One event: the answer that the table gives, and the bench afterwards. A refused event leaves it as it was.
 unfoldable pub stepOf : Limits → Bench → Event → Outcome

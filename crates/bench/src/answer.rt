@@ -1,5 +1,5 @@
 ghost use mathlib.Core.Path.{_≡_};
-ghost use Rattle.bench.specs.Answers.{freshNumber, answerNumber};
+ghost use Rattle.bench.specs.Answers.{freshNumber, answerNumber, isAccepted};
 use vote::Answer as TurnAnswer;
 
 // How the call for a fresh bench is answered.
@@ -61,5 +61,12 @@ impl Answer {
             Answer::FewBallots => 21,
             Answer::MustWait => TurnAnswer::Waiting.number(),
         }
+    }
+
+    // Whether the event is accepted: it is answered 0.
+    pub fn is_accepted(self) -> bool
+        ensures { λ r. ⌜ r ≡ isAccepted self ⌝ }
+    {
+        self.number() == 0
     }
 }

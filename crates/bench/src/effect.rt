@@ -1,6 +1,6 @@
 ghost use mathlib.Core.Path.{_≡_};
 ghost use Rattle.delivery.specs.Limits.{limits};
-ghost use Rattle.bench.specs.Effects.{withBoardAt, withSignature, withOwed, afterSaying, afterTurn, afterHearing, effectOf, isAccepted, stepOf};
+ghost use Rattle.bench.specs.Effects.{withBoardAt, withSignature, withOwed, afterSaying, afterTurn, afterHearing, effectOf, stepOf};
 use crate::answer::Answer;
 use crate::bench::Bench;
 use crate::event::Event;
@@ -17,17 +17,6 @@ use vote::Statement;
 pub struct Outcome {
     pub bench: Bench,
     pub answer: Answer,
-}
-
-impl Answer {
-    pub fn is_accepted(self) -> bool
-        ensures { λ r. ⌜ r ≡ isAccepted self ⌝ }
-    {
-        match self {
-            Answer::Accepted => true,
-            _ => false,
-        }
-    }
 }
 
 impl Bench {

@@ -304,11 +304,12 @@ fn votes() {
     play_schedule(b"one board\n", 1, NONE, &alone);
     let incident = INCIDENT;
     play_schedule(
-        b"the incident: of three boards the second is faulty\n",
+        b"the incident, of three boards of which the second is faulty: its ballot of round 1 is on the way\n",
         3,
         SECOND,
-        &incident,
+        &incident[..19],
     );
+    play_schedule(b"the incident to its end\n", 3, SECOND, &incident);
     let every = EVERY_ANSWER;
     play_schedule(
         b"every answer: of three boards the third is faulty\n",

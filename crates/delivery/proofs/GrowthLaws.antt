@@ -39,8 +39,7 @@ grows-on h h′ h″ g k =
 pub deliver-grows : (L : Limits) (d : Delivered) (s i v : ℕ) → Grows (heard L d) (heard L (deliver L d s i v))
 deliver-grows L d s i v = record { keeps = deliver-keeps L d s i v }
 
--- a value that was said stays so
-pub said-grows : {h h′ : Store} (g : Grows h h′) (s i w : ℕ) → h s i ≡ entryOf w → h′ s i ≡ entryOf w
+said-grows : {h h′ : Store} (g : Grows h h′) (s i w : ℕ) → h s i ≡ entryOf w → h′ s i ≡ entryOf w
 said-grows g s i w e = g .keeps s i (λ z. omega arith) ∙ e
 
 -- one round, where as much or more is allowed

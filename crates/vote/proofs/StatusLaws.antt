@@ -1,11 +1,8 @@
 -- Laws of how far a board is. Assumes nothing.
 use Prim.Native.Nat.{ℕ}
-use mathlib.Core.Path.{_≡_, refl, sym, ap, _∙_}
+use mathlib.Core.Path.{_≡_, refl, sym, ap}
 use mathlib.Core.Bool.{true, false, true≢false}
-use borrow.Author.Tests.{eq-eqb, eqb-true}
-use lib.Dec.{eqb}
-use Rattle.delivery.proofs.TestLaws.{and-left, and-right, and-in}
-use Rattle.vote.specs.Boards.{isStarted, isDecided, isEnded, hasDecided}
+use Rattle.vote.specs.Boards.{isStarted, isDecided, isEnded}
 use Rattle.vote.specs.Turns.{statusAfter}
 use Rattle.vote.specs.declared.rule.Move.{Move}
 use Rattle.vote.specs.declared.rule.Move.the-variants.{Waits, Passes, Opens, Ballots, Decides, Advances, Expires}
@@ -86,22 +83,9 @@ pub decided-one : (d c : Decision) → Decided d ≡ Decided c → d ≡ c
 unfolding decision
 decided-one d c e = ap (decision d) e
 
--- a board has decided v in r if its status says so
+-- the decision of v in r
 abbrev pub decisionOf : ℕ → ℕ → Decision
 decisionOf r v = record { round = record { 0 = r }; value = v }
-
-pub has-decided : (r v : ℕ) → hasDecided (Decided (decisionOf r v)) r v ≡ true
-unfolding hasDecided
-has-decided r v = and-in (eqb r r) (eqb v v) (eq-eqb r r refl) (eq-eqb v v refl)
-
-pub decided-has : (s : Status) (r v : ℕ) → hasDecided s r v ≡ true → s ≡ Decided (decisionOf r v)
-unfolding hasDecided
-decided-has Idle r v e = absurd (true≢false (sym e))
-decided-has Voting r v e = absurd (true≢false (sym e))
-decided-has Spent r v e = absurd (true≢false (sym e))
-decided-has (Decided d) r v e =
-    ap (λ (m : ℕ). Decided (decisionOf m (d .value))) (eqb-true (d .round .0) r (and-left (eqb (d .round .0) r) (eqb (d .value) v) e))
-    ∙ ap (λ (m : ℕ). Decided (decisionOf r m)) (eqb-true (d .value) v (and-right (eqb (d .round .0) r) (eqb (d .value) v) e))
 
 -- the move that makes a board decide
 pub decides-status : (r v : ℕ) → statusAfter r (Decides v) ≡ Decided (decisionOf r v)

@@ -127,10 +127,6 @@ unfolding answered
 waiting-not e = true≢false (sym (ap answered e))
 
 -- the numbers of the answers: 0 is that of `Done` alone, and the others are among those of the rows for events
-pub number-done : numberOf Done ≡ 0
-unfolding numberOf
-number-done = refl
-
 pub number-within : (a : Answer) → (numberOf a ≡ 0) ⊎ ((10 ≤ numberOf a) × (numberOf a ≤ 22))
 unfolding numberOf
 number-within Done = inl refl

@@ -5,8 +5,9 @@ use mathlib.Core.Bool.{true, false}
 use mathlib.Core.Path.{_≡_, sym, ap, _∙_}
 use Rattle.signer.proofs.ChoiceLaws.{if-true, if-false}
 use Rattle.delivery.specs.Limits.{limits}
+use Rattle.bench.specs.Answers.{isAccepted}
 use Rattle.bench.specs.Table.{checkOf}
-use Rattle.bench.specs.Effects.{isAccepted, effectOf, stepOf}
+use Rattle.bench.specs.Effects.{effectOf, stepOf}
 use Rattle.bench.proofs.bench.Bench.event.Statement.{statement}
 use Rattle.bench.proofs.bench.Bench.event.Tie as tie
 
