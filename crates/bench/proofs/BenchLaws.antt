@@ -1,16 +1,13 @@
 -- Laws of a bench's boards and signers, each read back after a change. Assumes nothing.
-use Prim.Native.Nat.{ℕ, _+_, _<_}
+use Prim.Native.Nat.{ℕ}
 use mathlib.Core.Path.{_≡_}
-use mathlib.Core.Bool.{Bool, true, false}
+use mathlib.Core.Bool.{true}
 use lib.ListN.{length}
-use native.Mathlib.Numerals.{add-one}
 use native.Mathlib.Omega.{arith}
 use Rattle.signer.proofs.FromOneLaws.{within-low, within-high, nth-set-same, nth-set-other, nth-replicate}
 use Rattle.signer.specs.Signer.{freshSigner, sign}
 use Rattle.delivery.specs.Limits.{Limits}
 use Rattle.delivery.specs.Bus.{isBoard}
-use Rattle.delivery.specs.Sets.{setOf, bits, withBoard}
-use Rattle.delivery.proofs.SetLaws.{with-next, skip-next}
 use Rattle.vote.specs.Boards.{freshBoard}
 use Rattle.vote.specs.declared.board.Board.{Board}
 use Rattle.bench.specs.Benches.{boardAt, signerAt}
@@ -63,12 +60,3 @@ board-fresh L n sound k = nth-replicate (L .boards) k (freshBoard L)
 pub signer-fresh : (L : Limits) (n sound k : ℕ) → signerAt L (benchOf L n sound) k ≡ freshSigner (L .identifiers)
 unfolding signerAt benchOf
 signer-fresh L n sound k = nth-replicate (L .boards) k (freshSigner (L .identifiers))
-
--- a turn of a loop that builds a set takes the next board in
-pub set-take : (k set : ℕ) (p : ℕ → Bool) → set ≡ setOf k p → k < bits → p (k + 1) ≡ true
-    → withBoard set (k + 1) ≡ setOf (k + 1) p
-set-take k set p e l h = rw (e, add-one k) (with-next k p l (rw add-one at h))
-
--- or leaves it out
-pub set-leave : (k set : ℕ) (p : ℕ → Bool) → set ≡ setOf k p → p (k + 1) ≡ false → set ≡ setOf (k + 1) p
-set-leave k set p e h = rw (e, add-one k) (skip-next k p (rw add-one at h))

@@ -10,7 +10,6 @@ use lib.Dec.{eqb}
 use Rattle.signer.specs.FromOne.{isWithin}
 use Rattle.signer.specs.Log.{isIdentifier, entryOf}
 use Rattle.signer.specs.Signer.{grants}
-use Rattle.signer.proofs.ChoiceLaws.{if-true, if-false}
 use Rattle.signer.proofs.FromOneLaws.{within-low, within-high}
 use Rattle.signer.proofs.SignerLaws.{grants-above}
 use Rattle.delivery.specs.Tests.{_or_}
@@ -34,6 +33,7 @@ use Rattle.bench.specs.Answers.{answerNumber, isAccepted}
 use Rattle.bench.specs.Table.{kindRow, boardsRow, wrongId, wrongValue, fieldsRow, markRow, startRow, endRow, signedRow, lastRow, deliveredRow, ballotsRow, refuses, turnRow, firstOf, checkOf}
 use Rattle.bench.specs.Effects.{withBoardAt, withSignature, afterTurn, afterHearing, effectOf}
 use Rattle.bench.proofs.AnswerLaws.{start-refused, end-refused, wait-refused}
+use Rattle.bench.proofs.TableLaws.{first-takes, first-skips}
 use Rattle.bench.proofs.EffectLaws.{
   effect-proposing,
   effect-turning,
@@ -50,12 +50,11 @@ use Rattle.bench.specs.declared.answer.Answer.{Answer}
 -- an event that is accepted passed a row, and is accepted by the rows after it
 first-passed : (row : Bool × Answer) (rows : List (Bool × Answer)) → isAccepted (row .1) ≡ false
     → isAccepted (firstOf (row ∷ rows)) ≡ true → (row .0 ≡ false) × (isAccepted (firstOf rows) ≡ true)
-unfolding firstOf
 first-passed row rows f t = go (row .0) refl
   where
     go : (b : Bool) → row .0 ≡ b → (row .0 ≡ false) × (isAccepted (firstOf rows) ≡ true)
-    go true e = absurd (true≢false (sym t ∙ ap isAccepted (if-true (row .0) (row .1) (firstOf rows) e) ∙ f))
-    go false e = (e, sym (ap isAccepted (if-false (row .0) (row .1) (firstOf rows) e)) ∙ t)
+    go true e = absurd (true≢false (sym t ∙ ap isAccepted (first-takes (row .0) (row .1) rows e) ∙ f))
+    go false e = (e, sym (ap isAccepted (first-skips (row .0) (row .1) rows e)) ∙ t)
 
 -- no row of the table applies to e
 pub record Passed (L : Limits) (c : Bench) (e : Event) : Type 0 where

@@ -113,7 +113,8 @@ module _ (L : Limits) (c : Bench) (e : Event) where
   unfoldable pub lastRow : Bool
   lastRow = is e signing and leb (e .id) (signerAt L c (e .a) .last .0)
 
-  -- 19: a has delivered it already
+  -- 19: a has delivered it already. A board keeps one statement of a speaker under an identifier; on a bench that was played
+  -- from a fresh one, what it has there is what b signed.
   unfoldable pub deliveredRow : Bool
   deliveredRow = is e delivering and neg (eqb (heardBy L c (e .a) (e .b) (e .id)) 0)
 

@@ -5,7 +5,7 @@ use mathlib.Core.Bool.{Bool, true, false, true≢false}
 use mathlib.Core.Logic.{_⊎_, inl, inr, ⊎-elim}
 use native.Mathlib.Omega.{arith}
 use native.Mathlib.Decide.{decLe}
-use native.Mathlib.Numerals.{one-add}
+use native.Mathlib.Numerals.{one-add, add-one}
 use native.Mathlib.Nat.{
   zero-lt-suc,
   le-of-suc-le-suc,
@@ -416,6 +416,13 @@ with-next k p h e =
     ∙ or-shifted-r 1 k (setOf k p) (set-lt k p)
     ∙ ap (λ (b : Bool). bit b * 2 ^ k + setOf k p) (sym e)
     ∙ sym (set-step k p)
+
+-- a turn of a loop that builds a set takes the next board in, or leaves it out
+pub set-take : (k set : ℕ) (p : ℕ → Bool) → set ≡ setOf k p → k < bits → p (k + 1) ≡ true → withBoard set (k + 1) ≡ setOf (k + 1) p
+set-take k set p e l h = rw (e, add-one k) (with-next k p l (rw add-one at h))
+
+pub set-leave : (k set : ℕ) (p : ℕ → Bool) → set ≡ setOf k p → p (k + 1) ≡ false → set ≡ setOf (k + 1) p
+set-leave k set p e h = rw (e, add-one k) (skip-next k p (rw add-one at h))
 
 -- two sets of 1 to n, joined, if that fits
 pub union-sets : (n : ℕ) (p p′ : ℕ → Bool) → setOf n (λ (k : ℕ). p k or p′ k) < 2 ^ bits

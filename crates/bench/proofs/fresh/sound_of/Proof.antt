@@ -8,9 +8,8 @@ use mathlib.Core.Path.{_≡_, sym, ap, _∙_}
 use mathlib.Core.Logic.{⊎-elim}
 use Rattle.delivery.specs.Limits.{limits}
 use Rattle.delivery.specs.Sets.{setOf, bits}
-use Rattle.delivery.proofs.SetLaws.{set-none}
+use Rattle.delivery.proofs.SetLaws.{set-none, set-take, set-leave}
 use Rattle.bench.specs.Setups.{isMarkedSound}
-use Rattle.bench.proofs.BenchLaws.{set-take, set-leave}
 use Rattle.bench.proofs.fresh.sound_of.Statement.{statement}
 use Rattle.bench.proofs.fresh.sound_of.Tie as tie
 

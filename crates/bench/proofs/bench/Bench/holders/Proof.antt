@@ -12,10 +12,9 @@ use Rattle.delivery.specs.Tests.{neg}
 use Rattle.delivery.specs.Limits.{limits}
 use Rattle.delivery.specs.Sets.{setOf, bits}
 use Rattle.delivery.proofs.TestLaws.{neg-in, neg-no}
-use Rattle.delivery.proofs.SetLaws.{set-none}
+use Rattle.delivery.proofs.SetLaws.{set-none, set-take, set-leave}
 use Rattle.bench.specs.Benches.{heardBy, holders}
 use Rattle.bench.specs.declared.bench.Bench.{Bench}
-use Rattle.bench.proofs.BenchLaws.{set-take, set-leave}
 use Rattle.bench.proofs.bench.Bench.holders.Statement.{statement}
 use Rattle.bench.proofs.bench.Bench.holders.Tie as tie
 

@@ -1,31 +1,23 @@
 -- `Delivered::speakers` meets its contract. The loop's invariant: the set is that of the boards passed.
 -- Assumes nothing.
-use Prim.Native.Nat.{ℕ, _+_, _-_, _≤_, _<_, min}
+use Prim.Native.Nat.{ℕ, _-_, _≤_, _<_, min}
 use borrow.Author.Needs.{needs}
 use borrow.Author.Tests.{eq-eqb, ne-eqb}
-use native.Mathlib.Numerals.{add-one}
 use native.Mathlib.Omega.{arith}
-use mathlib.Core.Bool.{Bool, true, false}
+use mathlib.Core.Bool.{Bool}
 use mathlib.Core.Path.{_≡_, refl, sym, ap, _∙_}
 use mathlib.Core.Logic.{⊎-elim}
 use lib.Dec.{eqb}
 use Rattle.delivery.specs.Limits.{limits}
-use Rattle.delivery.specs.Sets.{setOf, bits, withBoard}
+use Rattle.delivery.specs.Sets.{setOf, bits}
 use Rattle.delivery.specs.Delivered.{heard}
 use Rattle.delivery.specs.declared.delivered.Delivered.{Delivered}
-use Rattle.delivery.proofs.SetLaws.{with-next, skip-next}
+use Rattle.delivery.proofs.SetLaws.{set-take, set-leave}
 use Rattle.delivery.proofs.delivered.Delivered.speakers.Statement.{statement}
 use Rattle.delivery.proofs.delivered.Delivered.speakers.Tie as tie
 
 abbrev speaks : Delivered → ℕ → ℕ → ℕ → Bool
 speaks d i e s = eqb (heard limits d s i) e
-
--- a turn of the loop takes the next board in, or leaves it out
-turn-in : (k set : ℕ) (p : ℕ → Bool) → set ≡ setOf k p → k < bits → p (k + 1) ≡ true → withBoard set (k + 1) ≡ setOf (k + 1) p
-turn-in k set p e l h = rw (e, add-one k) (with-next k p l (rw add-one at h))
-
-turn-out : (k set : ℕ) (p : ℕ → Bool) → set ≡ setOf k p → p (k + 1) ≡ false → set ≡ setOf (k + 1) p
-turn-out k set p e h = rw (e, add-one k) (skip-next k p (rw add-one at h))
 
 abbrev Inv-loop : tie.InvT-loop
 Inv-loop self n id entry m speakers₀ k₀ speakers k =
@@ -65,8 +57,8 @@ loop-again c =
       i .inv .0,
       omega arith,
       ⊎-elim
-          (λ w. w .2 ∙ w .1 .ensures ∙ turn-in (i .k) (i .speakers) (speaks (a .self) (a .id .0) (a .entry)) (i .inv .2) within (eq-eqb _ _ (sym (e .ensures) ∙ w .0 .taken)))
-          (λ w. w .1 ∙ turn-out (i .k) (i .speakers) (speaks (a .self) (a .id .0) (a .entry)) (i .inv .2) (ne-eqb _ _ (λ h. w .0 .left (e .ensures ∙ h))))
+          (λ w. w .2 ∙ w .1 .ensures ∙ set-take (i .k) (i .speakers) (speaks (a .self) (a .id .0) (a .entry)) (i .inv .2) within (eq-eqb _ _ (sym (e .ensures) ∙ w .0 .taken)))
+          (λ w. w .1 ∙ set-leave (i .k) (i .speakers) (speaks (a .self) (a .id .0) (a .entry)) (i .inv .2) (ne-eqb _ _ (λ h. w .0 .left (e .ensures ∙ h))))
           (c .if2 .came),
     )
 
