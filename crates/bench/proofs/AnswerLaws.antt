@@ -92,7 +92,14 @@ fresh-within Made = inl refl
 fresh-within NoBus = inr (omega arith, omega arith)
 fresh-within NoMark = inr (omega arith, omega arith)
 
--- where it is not 0, the bench is as it was
+-- and 0 is that of a bench that is made, alone
+pub fresh-made : (a : FreshAnswer) → freshNumber a ≡ 0 → a ≡ Made
+unfolding freshNumber
+fresh-made Made e = refl
+fresh-made NoBus e = absurd (omega arith)
+fresh-made NoMark e = absurd (omega arith)
+
+-- where an event's is not 0, the bench is as it was
 pub refused-same : (L : Limits) (c : Bench) (e : Event) → (answerNumber (stepOf L c e .answer) ≡ 0 → ⊥) → stepOf L c e .bench ≡ c
 refused-same L c e f =
     ⊎-elim

@@ -1,26 +1,66 @@
 -- Laws of a list of events that is played from its bytes: what one event more does, how long the lists are, and what is
 -- written in a lent buffer. Assumes nothing.
-use Prim.Native.Nat.{ℕ, zero, suc, _+_, _-_, _≤_, _<_, _/_, _%_}
-use borrow.Author.Tests.{leb-true}
+use Prim.Native.Nat.{ℕ, zero, suc, _+_, _-_, _*_, _≤_, _<_, _/_, _%_}
+use borrow.Author.Tests.{leb-true, le-leb, eq-eqb}
 use native.Mathlib.Nat.{zero-add}
 use native.Mathlib.Numerals.{add-one}
 use native.Mathlib.Omega.{arith}
 use mathlib.Core.Path.{_≡_, refl, sym, ap, _∙_}
 use mathlib.Core.List.{List, [], _∷_, _++_}
 use lib.Dec.{eqb, leb}
-use lib.ListN.{length, drop, set, length-append, length-drop}
-use lib.Seq.{sets, sets-eq, drop-drop}
-use Rattle.signer.proofs.ChoiceLaws.{if-elim}
+use lib.ListN.{length, drop, set, length-append, length-drop, List·getD-append}
+use lib.Seq.{sets, sets-eq, drop-drop, drop-append-le}
+use Rattle.signer.specs.FromOne.{nth}
+use Rattle.signer.proofs.FromOneLaws.{nth-index}
+use Rattle.signer.proofs.ChoiceLaws.{if-true, if-elim}
 use Rattle.delivery.specs.Limits.{Limits}
-use Rattle.bench.specs.Events.{eventBytes, eventFrom}
+use Rattle.bench.specs.Events.{highFirst, eventBytes, eventFrom}
+use Rattle.bench.specs.Setups.{freshBench}
 use Rattle.bench.specs.Answers.{answerNumber}
 use Rattle.bench.specs.Effects.{stepOf}
-use Rattle.bench.specs.Runs.{after, answersTo, eventsIn, endingOf, playedBy, eventsPlayed, written}
+use Rattle.bench.specs.Runs.{after, answersTo, eventsIn, endingOf, playedBy, eventsPlayed, written, playedOf, answersAfter}
 use Rattle.bench.specs.Story.{History, historyOf}
 use Rattle.bench.specs.declared.bench.Bench.{Bench}
 use Rattle.bench.specs.declared.event.Event.{Event}
 use Rattle.bench.specs.declared.play.Ending.{Ending}
 use Rattle.bench.specs.declared.play.Ending.the-variants.{Played}
+
+-- an event is its six bytes, and no byte after them matters
+pub event-bytes : (k a b i high low : ℕ) (bs : List ℕ)
+    → eventFrom (k ∷ a ∷ b ∷ i ∷ high ∷ low ∷ bs) ≡ record { kind = k; a = a; b = b; id = i; value = highFirst high low }
+unfolding eventFrom
+event-bytes k a b i high low bs = refl
+
+pub event-append : (bs more : List ℕ) → eventBytes ≤ length bs → eventFrom (bs ++ more) ≡ eventFrom bs
+unfolding eventFrom
+event-append bs more h =
+    rw (
+      List·getD-append bs more 0 0 (omega (arith, h)),
+      List·getD-append bs more 0 1 (omega (arith, h)),
+      List·getD-append bs more 0 2 (omega (arith, h)),
+      List·getD-append bs more 0 3 (omega (arith, h)),
+      List·getD-append bs more 0 4 (omega (arith, h)),
+      List·getD-append bs more 0 5 (omega (arith, h)),
+    )
+
+pub events-append : (k : ℕ) (bs more : List ℕ) → eventBytes * k ≤ length bs → eventsIn k (bs ++ more) ≡ eventsIn k bs
+unfolding eventsIn
+events-append zero bs more h = refl
+events-append (suc k) bs more h =
+    let one : eventBytes ≤ length bs = omega (arith, h) in
+    let rest : eventBytes * k ≤ length (drop eventBytes bs) = omega (arith, h, length-drop eventBytes bs) in
+    ap (λ (e : Event). e ∷ eventsIn k (drop eventBytes (bs ++ more))) (event-append bs more one)
+    ∙ ap (λ (cs : List ℕ). eventFrom bs ∷ eventsIn k cs) (drop-append-le eventBytes bs more one)
+    ∙ ap (λ (es : List Event). eventFrom bs ∷ es) (events-append k (drop eventBytes bs) more rest)
+
+-- no events, and one more
+pub events-none : (bs : List ℕ) → eventsIn 0 bs ≡ []
+unfolding eventsIn
+events-none bs = refl
+
+pub events-more : (k : ℕ) (bs : List ℕ) → eventsIn (suc k) bs ≡ eventFrom bs ∷ eventsIn k (drop eventBytes bs)
+unfolding eventsIn
+events-more k bs = refl
 
 -- as many events are read as are asked for
 pub length-events : (k : ℕ) (bs : List ℕ) → length (eventsIn k bs) ≡ k
@@ -99,6 +139,39 @@ unfolding playedBy
 played-room bs room h =
     let e : length (eventsPlayed bs room) ≡ length (eventsIn (length bs / eventBytes) bs) = ap (λ (x : Ending). length (playedBy x bs)) h in
     omega (arith, played-fits bs room, e, length-events (length bs / eventBytes) bs)
+
+-- whole events for which there is room are played
+pub events-played : (k room : ℕ) (bs : List ℕ) → length bs ≡ eventBytes * k → k ≤ room → eventsPlayed bs room ≡ eventsIn k bs
+unfolding endingOf playedBy
+events-played k room bs e h =
+    let whole : length bs % eventBytes ≡ 0 = omega arith in
+    let count : length bs / eventBytes ≡ k = omega arith in
+    let fits : length bs / eventBytes ≤ room = omega arith in
+    ap
+    (λ (x : Ending). playedBy x bs)
+    (if-true (eqb (length bs % eventBytes) 0) _ _ (eq-eqb (length bs % eventBytes) 0 whole)
+    ∙ if-true (leb (length bs / eventBytes) room) _ _ (le-leb (length bs / eventBytes) room fits))
+    ∙ ap (λ (m : ℕ). eventsIn m bs) count
+
+-- so playing them gives the bench after them, and their answers are written
+module _ (L : Limits) (n : ℕ) (marks : List ℕ) (k : ℕ) (bs : List ℕ) (e : length bs ≡ eventBytes * k) where
+  pub played-bench : (room : ℕ) → k ≤ room → playedOf L n marks bs room .bench ≡ after L (freshBench L n marks) (eventsIn k bs)
+  unfolding playedOf
+  played-bench room h = ap (λ (es : List Event). after L (freshBench L n marks) es) (events-played k room bs e h)
+
+  pub played-answers : (buf : List ℕ) → k ≤ length buf
+      → answersAfter L n marks bs buf ≡ written (answersTo L (freshBench L n marks) (eventsIn k bs)) buf
+  unfolding answersAfter
+  played-answers buf h =
+      ap (λ (es : List Event). written (answersTo L (freshBench L n marks) es) buf) (events-played k (length buf) bs e h)
+
+-- and what is written can be read
+pub nth-written : (xs ys : List ℕ) (k : ℕ) → 1 ≤ k → k ≤ length xs → nth (written xs ys) k 0 ≡ nth xs k 0
+unfolding written
+nth-written xs ys k l h =
+    nth-index (xs ++ drop (length xs) ys) k 0 l
+    ∙ List·getD-append xs (drop (length xs) ys) 0 (k - 1) (omega arith)
+    ∙ sym (nth-index xs k 0 l)
 
 -- a history looks at no more of the buffer than the answers
 history-append : (L : Limits) (c : Bench) (es : List Event) (ys : List ℕ)

@@ -1,24 +1,28 @@
 -- What the call for a fresh bench gives is within the limits, and a fresh bench is fit. Assumes nothing.
-use Prim.Native.Nat.{ℕ}
+use Prim.Native.Nat.{ℕ, _≤_}
 use native.Mathlib.Omega.{arith}
-use mathlib.Core.Path.{_≡_, refl, sym, ap, subst, subst⁻¹, _∙_}
+use mathlib.Core.Path.{_≡_, refl, sym, ap, subst, subst⁻¹, _∙_, fun-ext}
 use mathlib.Core.Bool.{Bool, true, true≢false}
 use mathlib.Core.List.{List}
 use mathlib.Core.Logic.{⊎-elim}
+use lib.Dec.{eqb}
 use lib.ListN.{length-replicate}
-use Rattle.signer.specs.FromOne.{isWithin}
+use Rattle.signer.specs.FromOne.{isWithin, nth}
+use Rattle.signer.specs.Choice.{if_then_else_}
 use Rattle.signer.specs.Log.{entryAt, entryOf}
 use Rattle.signer.specs.Signer.{freshSigner}
 use Rattle.signer.specs.declared.signer.Signer.{Signer}
-use Rattle.signer.proofs.ChoiceLaws.{if-elim}
+use Rattle.signer.proofs.ChoiceLaws.{if-true, if-elim}
 use Rattle.signer.proofs.FromOneLaws.{within-low, within-high, within-out}
 use Rattle.signer.proofs.SignerLaws.{WellFormed, fresh-last, fresh-unsigned, fresh-wellformed}
 use Rattle.delivery.specs.Limits.{Limits, limits}
 use Rattle.delivery.specs.Bus.{isBoard}
+use Rattle.delivery.specs.Counting.{everyIn}
 use Rattle.delivery.specs.Sets.{inSet, setOf, withBoard}
 use Rattle.delivery.specs.Delivered.{heard}
 use Rattle.delivery.specs.declared.delivered.Delivered.{Delivered}
 use Rattle.delivery.proofs.TestLaws.{decided}
+use Rattle.delivery.proofs.CountLaws.{reads-every}
 use Rattle.delivery.proofs.SetLaws.{in-setOf-outside, in-none, set-none, with-next}
 use Rattle.delivery.proofs.DeliveredLaws.{heard-nothing}
 use Rattle.delivery.proofs.OwedLaws.{nothing-complete, owed-nothing}
@@ -28,7 +32,7 @@ use Rattle.vote.proofs.BoardLaws.{fresh-delivered}
 use Rattle.vote.proofs.ProperLaws.{Proper, fresh-proper}
 use Rattle.vote.proofs.LifeLaws.{Grounded, fresh-grounded}
 use Rattle.bench.specs.Benches.{signerAt, heardBy, signedBy}
-use Rattle.bench.specs.Setups.{Setup, freshAnswer, setupBy, setup, benchOf}
+use Rattle.bench.specs.Setups.{isMarkByte, isMark, isMarkedSound, Setup, freshAnswer, setupBy, setup, benchOf, freshBench}
 use Rattle.bench.specs.Answers.{freshNumber}
 use Rattle.bench.specs.declared.answer.FreshAnswer.{FreshAnswer}
 use Rattle.bench.specs.declared.answer.FreshAnswer.the-variants.{Made, NoBus, NoMark}
@@ -52,6 +56,25 @@ alone-set =
     ap (λ (m : ℕ). withBoard m 1) (sym (set-none 0 all (λ k l h. absurd (omega arith))))
     ∙ with-next 0 all (omega arith) refl
 
+-- marks that read alike make one bench
+module _ (ms rs : List ℕ) (e : (k : ℕ) → nth ms k 0 ≡ nth rs k 0) where
+  setup-alike : (a : FreshAnswer) (n : ℕ) → setupBy a n ms ≡ setupBy a n rs
+  unfolding setupBy isMarkedSound
+  setup-alike Made n = ap (λ (p : ℕ → Bool). record { n = n; sound = setOf n p }) (fun-ext (λ k. ap (λ (m : ℕ). eqb m 0) (e k)))
+  setup-alike NoBus n = refl
+  setup-alike NoMark n = refl
+
+  answer-alike : (L : Limits) (n : ℕ) → freshAnswer L n ms ≡ freshAnswer L n rs
+  unfolding freshAnswer isMark
+  answer-alike L n = ap (λ (p : ℕ → Bool). if isBoard L n then (if everyIn n p then Made else NoMark) else NoBus) (fun-ext (λ k. ap isMarkByte (e k)))
+
+  pub fresh-alike : (L : Limits) (n : ℕ) → freshBench L n ms ≡ freshBench L n rs
+  unfolding freshBench
+  fresh-alike L n =
+      ap
+      (λ (s : Setup). benchOf L (s .n) (s .sound))
+      (ap (λ (a : FreshAnswer). setupBy a n ms) (answer-alike L n) ∙ setup-alike (freshAnswer L n rs) n)
+
 -- a bench that is made has a number of boards that there can be
 made-board : (L : Limits) (n : ℕ) (marks : List ℕ) → freshAnswer L n marks ≡ Made → isBoard L n ≡ true
 unfolding freshAnswer freshNumber
@@ -63,6 +86,12 @@ made-board L n marks =
     NoBus
     (λ t e. t)
     (λ f e. let z : 2 ≡ 0 = ap freshNumber e in absurd (omega (arith, z)))
+
+-- and one is made for such a number, if the marks are marks
+pub board-made : (L : Limits) (n : ℕ) (marks : List ℕ) → isBoard L n ≡ true
+    → ((k : ℕ) → 1 ≤ k → k ≤ n → isMarkByte (nth marks k 0) ≡ true) → freshAnswer L n marks ≡ Made
+unfolding freshAnswer isMark
+board-made L n marks t m = if-true _ _ _ t ∙ if-true _ _ _ (reads-every n (isMark marks) m)
 
 alone-ground : (n : ℕ) (marks : List ℕ) → Ground limits (setupBy NoBus n marks)
 unfolding setupBy

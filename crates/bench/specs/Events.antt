@@ -43,7 +43,11 @@ usesId k = eqb k delivering or eqb k announcing or eqb k signing
 unfoldable pub usesValue : ℕ → Bool
 usesValue k = eqb k proposing or usesId k
 
--- an event's bytes: kind, a, b, id, and the value with its high byte first
+-- a number in two bytes, the high one first
+abbrev pub highFirst : ℕ → ℕ → ℕ
+highFirst high low = high * 256 + low
+
+-- an event's bytes: kind, a, b, id, and the value
 abbrev pub eventBytes : ℕ
 eventBytes = 6
 
@@ -54,5 +58,5 @@ eventFrom bs =
       a = getD bs 1 0;
       b = getD bs 2 0;
       id = getD bs 3 0;
-      value = getD bs 4 0 * 256 + getD bs 5 0;
+      value = highFirst (getD bs 4 0) (getD bs 5 0);
     }

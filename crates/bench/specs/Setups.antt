@@ -19,8 +19,11 @@ use Rattle.bench.specs.declared.answer.FreshAnswer.{FreshAnswer}
 use Rattle.bench.specs.declared.answer.FreshAnswer.the-variants.{Made, NoBus, NoMark}
 
 -- a mark is 0, sound, or 1, faulty; board k's is the k-th
+abbrev pub isMarkByte : ℕ → Bool
+isMarkByte m = leb m 1
+
 unfoldable pub isMark : List ℕ → ℕ → Bool
-isMark marks k = leb (nth marks k 0) 1
+isMark marks k = isMarkByte (nth marks k 0)
 
 unfoldable pub isMarkedSound : List ℕ → ℕ → Bool
 isMarkedSound marks k = eqb (nth marks k 0) 0

@@ -4,7 +4,7 @@ ghost use Rattle.delivery.specs.Limits.{limits};
 ghost use Rattle.delivery.specs.Counting.{everyIn};
 ghost use Rattle.delivery.specs.Sets.{setOf};
 ghost use Rattle.signer.specs.FromOne.{nth};
-ghost use Rattle.bench.specs.Setups.{isMark, isMarkedSound, alone, freshOf, benchOf};
+ghost use Rattle.bench.specs.Setups.{isMarkByte, isMark, isMarkedSound, alone, freshOf, benchOf};
 use crate::answer::FreshAnswer;
 use crate::bench::Bench;
 use delivery::Delivered;
@@ -35,7 +35,7 @@ fn are_marks(marks: [u8; Bench::BOARDS as usize], n: u8) -> bool
 {
     let mut k = 0u8;
     while k < n {
-        if mark(marks, k + 1) > 1 {
+        if !Bench::is_mark(mark(marks, k + 1)) {
             return false;
         }
         k += 1;
@@ -60,6 +60,13 @@ fn sound_of(marks: [u8; Bench::BOARDS as usize], n: u8) -> u16
 }
 
 impl Bench {
+    // Whether a byte is a mark at all: 0 or 1.
+    pub fn is_mark(byte: u8) -> bool
+        ensures { λ r. ⌜ r ≡ isMarkByte byte ⌝ }
+    {
+        byte <= 1
+    }
+
     // Nothing has happened yet on this bench.
     fn of(n: u8, sound: u16) -> Bench
         ensures { λ r. ⌜ r ≡ benchOf limits n sound ⌝ }

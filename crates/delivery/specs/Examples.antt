@@ -21,7 +21,10 @@ use Rattle.delivery.specs.declared.round.Phase.the-variants.{Opening, Ba
 abbrev pub Sizes : ℕ → ℕ → ℕ → ℕ → Type 0
 Sizes n f q e = (faults n ≡ f) × (quorum n ≡ q) × (overlap n ≡ e)
 
-pub letter-a : (Sizes 1 0 1 1) × (Sizes 2 0 2 2) × (Sizes 3 1 2 1) × (Sizes 4 1 3 2) × (Sizes (limits .boards) 3 4 1)
+abbrev pub LetterA : Type 0
+LetterA = (Sizes 1 0 1 1) × (Sizes 2 0 2 2) × (Sizes 3 1 2 1) × (Sizes 4 1 3 2) × (Sizes (limits .boards) 3 4 1)
+
+pub letter-a : LetterA
 letter-a = (
   (refl, refl, refl),
   (refl, refl, refl),
@@ -31,12 +34,18 @@ letter-a = (
 )
 
 -- letter b: the coordinators of rounds 1 to 4 among three boards
-pub letter-b : (coordinator 3 1 ≡ 1) × (coordinator 3 2 ≡ 2) × (coordinator 3 3 ≡ 3) × (coordinator 3 4 ≡ 1)
+abbrev pub LetterB : Type 0
+LetterB = (coordinator 3 1 ≡ 1) × (coordinator 3 2 ≡ 2) × (coordinator 3 3 ≡ 3) × (coordinator 3 4 ≡ 1)
+
+pub letter-b : LetterB
 unfolding coordinator
 letter-b = (refl, refl, refl, refl)
 
 -- letter c: the identifiers of the last round; its ballot's is the highest that there is
-pub letter-c : (identifierOf limits Opening (limits .rounds) ≡ 63) × (identifierOf limits Ballot (limits .rounds) ≡ identifiers)
+abbrev pub LetterC : Type 0
+LetterC = (identifierOf limits Opening (limits .rounds) ≡ 63) × (identifierOf limits Ballot (limits .rounds) ≡ identifiers)
+
+pub letter-c : LetterC
 unfolding identifierOf phaseOf isWithin if_then_else_
 letter-c = (refl, refl)
 
@@ -85,11 +94,32 @@ abbrev pub nine-nine-blank : Delivered
 nine-nine-blank = ballot 3 0 (ballot 2 9 (ballot 1 9 opened))
 
 -- letters e to h, of three boards, and i to k, of four
+abbrev pub LetterE : Type 0
+LetterE = Only 9 3 nine-blank
+
+abbrev pub LetterF : Type 0
+LetterF = Every 3 blank-blank
+
+abbrev pub LetterG : Type 0
+LetterG = Every 3 nine-blank-blank
+
+abbrev pub LetterH : Type 0
+LetterH = None 3 nine-alone
+
+abbrev pub LetterI : Type 0
+LetterI = Every 4 nine-blank-blank
+
+abbrev pub LetterJ : Type 0
+LetterJ = Only 9 4 nine-nine-blank
+
+abbrev pub LetterK : Type 0
+LetterK = Unopened 4
+
 pub record Letters : Type 0 where
-  pub e : Only 9 3 nine-blank
-  pub f : Every 3 blank-blank
-  pub g : Every 3 nine-blank-blank
-  pub h : None 3 nine-alone
-  pub i : Every 4 nine-blank-blank
-  pub j : Only 9 4 nine-nine-blank
-  pub k : Unopened 4
+  pub e : LetterE
+  pub f : LetterF
+  pub g : LetterG
+  pub h : LetterH
+  pub i : LetterI
+  pub j : LetterJ
+  pub k : LetterK

@@ -18,8 +18,12 @@ asked u v w x =
     ∷ []
 
 -- letter d: a fresh signer signs the first, refuses the next two and signs the last
-pub letter-d : (u v w x : ℕ)
+abbrev pub LetterD : Type 0
+LetterD =
+    (u v w x : ℕ)
     → map (λ (h : Request × Bool). h .1) (history identifiers (freshSigner identifiers) (asked u v w x))
     ≡ true ∷ false ∷ false ∷ true ∷ []
+
+pub letter-d : LetterD
 unfolding history sign if_then_else_ grants isWithin freshSigner
 letter-d u v w x = refl

@@ -2,16 +2,15 @@
 -- Assumes nothing.
 use borrow.Author.Needs.{needs}
 use Prim.Native.Nat.{ℕ, _+_, _-_, _≤_}
-use borrow.Author.Tests.{leb-true, le-leb}
+use borrow.Author.Tests.{not-true, not-false}
 use native.Mathlib.Omega.{arith}
 use native.Mathlib.Decide.{decLe}
-use mathlib.Core.Bool.{Bool, true}
+use mathlib.Core.Bool.{Bool, true, true≢false}
 use mathlib.Core.Path.{_≡_, sym, ap, _∙_}
-use Rattle.signer.specs.FromOne.{nth}
 use Rattle.delivery.specs.Counting.{everyIn}
 use Rattle.delivery.proofs.TestLaws.{fails}
 use Rattle.delivery.proofs.CountLaws.{every-reads, reads-every}
-use Rattle.bench.specs.Setups.{isMark}
+use Rattle.bench.specs.Setups.{isMarkByte, isMark}
 use Rattle.bench.proofs.fresh.are_marks.Statement.{statement}
 use Rattle.bench.proofs.fresh.are_marks.Tie as tie
 
@@ -38,17 +37,25 @@ add-mark c = omega arith
 mark-requires : tie.Need-mark-requires Inv-loop μ-loop
 mark-requires c κs = search needs
 
-returns : tie.Need-returns Inv-loop μ-loop
+is-mark-requires : tie.Need-is-mark-requires Inv-loop μ-loop
+is-mark-requires c κs = search needs
+
+-- what the call says of the mark of the board that is passed
+tested : (c : tie.After-is-mark Inv-loop μ-loop)
+    → c .is-mark .result ≡ isMark (c .before .before .before .before .args .marks) (c .before .before .before .loop .k + 1)
 unfolding isMark
+tested c = c .is-mark .ensures ∙ ap isMarkByte (c .before .mark .ensures)
+
+returns : tie.Need-returns Inv-loop μ-loop
 returns c =
-    let i = c .before .before .before in
+    let i = c .before .before .before .before in
     let a = i .before .args in
     sym
     (fails
     (everyIn (a .n) (isMark (a .marks)))
     (λ h.
-    let m : nth (a .marks) (i .loop .k + 1) 0 ≤ 1 = leb-true _ 1 (every-reads (a .n) (isMark (a .marks)) h (i .loop .k + 1) (omega arith) (omega arith)) in
-    omega (arith, m, c .before .mark .ensures)))
+    true≢false
+    (sym (every-reads (a .n) (isMark (a .marks)) h (i .loop .k + 1) (omega arith) (omega arith)) ∙ sym (tested (c .before)) ∙ not-true _ (c .if1 .taken))))
 
 add-k : tie.Need-add-k Inv-loop μ-loop
 add-k c = omega arith
@@ -57,12 +64,11 @@ loop-less : tie.Need-loop-less Inv-loop μ-loop
 loop-less c = omega arith
 
 loop-again : tie.Need-loop-again Inv-loop μ-loop
-unfolding isMark
 loop-again c =
-    let i = c .before .before .before in
-    let a = i .before .args in
-    let m : nth (a .marks) (i .loop .k + 1) 0 ≤ 1 = omega (arith, c .before .mark .ensures) in
-    (omega arith, every-next (i .loop .k) (isMark (a .marks)) (i .loop .inv .1) (le-leb _ 1 m))
+    let i = c .before .before .before .before in (
+      omega arith,
+      every-next (i .loop .k) (isMark (i .before .args .marks)) (i .loop .inv .1) (sym (tested (c .before)) ∙ not-false _ (c .if1 .left)),
+    )
 
 returns-2 : tie.Need-returns-2 Inv-loop μ-loop
 returns-2 c =
@@ -80,6 +86,7 @@ are-marks-spec =
     loop-holds
     add-mark
     mark-requires
+    is-mark-requires
     returns
     add-k
     loop-less

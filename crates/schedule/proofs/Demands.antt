@@ -1,0 +1,105 @@
+-- Demands 1 and 2, for files. What each says stands in specs/Demands. Nothing is assumed: they hold for every file, of any
+-- length.
+use Prim.Native.Nat.{ℕ, zero, suc, _-_, _≤_, _<_}
+use native.Mathlib.Omega.{arith}
+use mathlib.Core.Path.{_≡_, refl, ap, subst⁻¹}
+use mathlib.Core.List.{List, [], _∷_}
+use mathlib.Core.Logic.{_⊎_, inl, inr, ⊎-elim}
+use lib.ListN.{length, getD, length-append}
+use Rattle.signer.specs.FromOne.{nth}
+use Rattle.signer.proofs.FromOneLaws.{within-low, nth-index}
+use Rattle.delivery.specs.Limits.{limits}
+use Rattle.bench.specs.Setups.{freshBench}
+use Rattle.bench.specs.Answers.{freshNumber}
+use Rattle.bench.specs.Runs.{after}
+use Rattle.bench.specs.Shows.{shown}
+use Rattle.bench.specs.declared.show.Shown.{Shown}
+use Rattle.bench.specs.declared.answer.FreshAnswer.{FreshAnswer}
+use Rattle.bench.specs.declared.answer.FreshAnswer.the-variants as fresh
+use Rattle.bench.proofs.AnswerLaws.{fresh-within, fresh-made}
+use Rattle.bench.proofs.SetupLaws.{board-made}
+use Rattle.schedule.specs.Files.{faultNumber, fileNumber, Parse, parsed, fault, File, fileDue, answerOf}
+use Rattle.schedule.specs.Layouts.{All, none, more, Holdable}
+use Rattle.schedule.specs.Readings.{scheduleFrom}
+use Rattle.schedule.specs.Prints.{linesTo, boardLine, boardLines, refusedLine, printedFrom}
+use Rattle.schedule.specs.Demands.{IsFileRow, Demand1, Demand2}
+use Rattle.schedule.specs.declared.answer.Fault.{Fault}
+use Rattle.schedule.specs.declared.answer.Fault.the-variants.{EndsEarly, NoBus, NoMark, TooMany, LeftOver}
+use Rattle.schedule.specs.declared.answer.FileAnswer.{FileAnswer}
+use Rattle.schedule.specs.declared.answer.FileAnswer.the-variants.{Taken, Refused}
+use Rattle.schedule.proofs.LayoutLaws.{file-laid, file-read}
+use Rattle.schedule.proofs.PrefixLaws.{enough-read}
+
+-- the number of every fault is a row's; two are the bench's
+fresh-row : (a : FreshAnswer) → (a ≡ fresh.Made → ⊥) → IsFileRow (freshNumber a)
+fresh-row a h = ⊎-elim (λ z. absurd (h (fresh-made a z))) (λ r. (omega arith, omega arith)) (fresh-within a)
+
+fault-row : (w : Fault) → IsFileRow (faultNumber w)
+unfolding faultNumber
+fault-row EndsEarly = (omega arith, omega arith)
+fault-row NoBus = fresh-row fresh.NoBus (λ e. let z : _≡_ {A = ℕ} 0 1 = cc in omega arith)
+fault-row NoMark = fresh-row fresh.NoMark (λ e. let z : _≡_ {A = ℕ} 0 1 = cc in omega arith)
+fault-row TooMany = (omega arith, omega arith)
+fault-row LeftOver = (omega arith, omega arith)
+
+file-row : (a : FileAnswer) → (a ≡ Taken) ⊎ IsFileRow (fileNumber a)
+unfolding fileNumber
+file-row Taken = inl refl
+file-row (Refused w) = inr (fault-row w)
+
+-- some lines are some bytes, where each is
+lines-some : (n : ℕ) (f : ℕ → List ℕ) → 1 ≤ n → ((k : ℕ) → 0 < length (f k)) → 0 < length (linesTo n f)
+unfolding linesTo
+lines-some zero f h some = absurd (omega arith)
+lines-some (suc n) f h some = simp length-append (omega (arith, some (suc n)))
+
+board-some : (k : ℕ) (s : Shown) → 0 < length (boardLine k s)
+unfolding boardLine
+board-some k s = simp length-append (omega arith)
+
+-- so there is always a report: a file that is taken has a board, and the line of one that is refused begins with a word
+print-some : (p : Parse File) → ((f : File) (rest : List ℕ) → p ≡ parsed f rest → Holdable limits f) → 0 < length (printedFrom limits p)
+unfolding printedFrom refusedLine
+print-some (parsed f rest) h =
+    let c = after limits (freshBench limits (length (f .marks)) (f .marks)) (f .events) in
+    let some : 0 < length (boardLines limits (length (f .marks)) c) = lines-some _ _ (within-low (limits .boards) _ (h f rest refl .boards)) (λ k. board-some k (shown limits c k)) in
+    simp length-append (omega arith)
+print-some (fault w) h = omega arith
+
+-- a file that is refused has nothing to play, and one line to print
+nothing-played : (p : Parse File) (w : Fault) → answerOf p ≡ Refused w
+    → (scheduleFrom limits p .count ≡ 0) × (printedFrom limits p ≡ refusedLine w)
+unfolding answerOf scheduleFrom printedFrom
+nothing-played (parsed f rest) w e = let z : _≡_ {A = ℕ} 0 1 = cc in absurd (omega arith)
+nothing-played (fault v) w e = let same : v ≡ w = cc in (refl, ap refusedLine same)
+
+-- what holds of all of a list holds of its k-th
+all-at : {A : Type 0} (P : A → Type 0) (xs : List A) (i : ℕ) (d : A) → All P xs → i < length xs → P (getD xs i d)
+all-at P [] i d none h = absurd (omega arith)
+all-at P (x ∷ xs) zero d (more p a) h = p
+all-at P (x ∷ xs) (suc i) d (more p a) h = all-at P xs i d a (omega arith)
+
+all-nth : {A : Type 0} (P : A → Type 0) (xs : List A) (k : ℕ) (d : A) → All P xs → 1 ≤ k → k ≤ length xs → P (nth xs k d)
+all-nth P xs k d a l h = subst⁻¹ P (nth-index xs k d l) (all-at P xs (k - 1) d a (omega arith))
+
+-- every file is answered and reported, and one that is taken gets its bench
+pub demand-1 : Demand1
+demand-1 =
+    record {
+      answered = λ bs. file-row (answerOf (fileDue limits bs));
+      reported = λ bs. print-some (fileDue limits bs) (λ f rest e. file-laid limits bs f rest e .1);
+      refused = λ bs. nothing-played (fileDue limits bs);
+      made =
+          λ bs f rest e.
+          let h = file-laid limits bs f rest e .1 in
+          board-made limits (length (f .marks)) (f .marks) (h .boards) (λ k. all-nth _ (f .marks) k 0 (h .marks));
+      any-length = enough-read limits;
+    }
+
+-- and a file is read as exactly what its bytes mean
+pub demand-2 : Demand2
+demand-2 =
+    record {
+      exact = λ bs b f rest e. let l = file-laid limits bs f rest e in (l .0 b, l .1);
+      whole = file-read limits;
+    }

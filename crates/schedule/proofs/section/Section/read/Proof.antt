@@ -1,0 +1,70 @@
+-- `Section::read` meets its contract: each test is one of the laws of a section. Assumes nothing.
+use borrow.Author.Needs.{needs}
+use native.Mathlib.Omega.{arith}
+use mathlib.Core.Path.{sym}
+use Rattle.schedule.proofs.ReadLaws.{section-cut, section-many, section-short, section-there}
+use Rattle.schedule.proofs.section.Section.read.Statement.{statement}
+use Rattle.schedule.proofs.section.Section.read.Tie as tie
+
+returns : tie.Need-returns
+returns c = sym (section-cut (c .before .args .bytes .now) (c .if1 .taken))
+
+shared-slice-read-high : tie.Need-shared-slice-read-high
+shared-slice-read-high c = search needs
+
+cast-high : tie.Need-cast-high
+cast-high c = omega (arith, c .shared-slice-known .given 0)
+
+shared-slice-read-low : tie.Need-shared-slice-read-low
+shared-slice-read-low c = search needs
+
+cast-low : tie.Need-cast-low
+cast-low c = omega (arith, c .shared-slice-known2 .given 1)
+
+mul-count : tie.Need-mul-count
+mul-count c = omega (arith, c .shared-slice-known2 .given 0)
+
+add-count : tie.Need-add-count
+add-count c = omega (arith, c .shared-slice-known2 .given 0, c .shared-slice-known2 .given 1)
+
+returns-2 : tie.Need-returns-2
+returns-2 c =
+    let e = c .before .before .before in
+    sym (section-many (e .before .args .bytes .now) (e .if1 .left) (c .if2 .taken))
+
+sub-if3 : tie.Need-sub-if3
+sub-if3 c = search needs
+
+cast-if3 : tie.Need-cast-if3
+cast-if3 c = search needs
+
+mul-if3 : tie.Need-mul-if3
+mul-if3 c = search needs
+
+returns-3 : tie.Need-returns-3
+returns-3 c =
+    let e = c .before .before .before .before in
+    sym (section-short (e .before .args .bytes .now) (e .if1 .left) (c .before .if2 .left) (omega arith))
+
+returns-4 : tie.Need-returns-4
+returns-4 c =
+    let e = c .before .before .before .before in
+    sym (section-there (e .before .args .bytes .now) (e .if1 .left) (c .before .if2 .left) (omega arith))
+
+pub read-spec : {M : Type 1} → statement M
+read-spec =
+    tie.close
+    (tie.spec
+    returns
+    shared-slice-read-high
+    cast-high
+    shared-slice-read-low
+    cast-low
+    mul-count
+    add-count
+    returns-2
+    sub-if3
+    cast-if3
+    mul-if3
+    returns-3
+    returns-4)

@@ -1,0 +1,113 @@
+-- Document 01, "Where an event or file stops" and "Schedule file and program": what the bytes of a file mean. A file is
+-- read from the front, and the first fault that is met is its answer.
+use Prim.Native.Nat.{ℕ, zero, suc, _+_, _*_}
+use mathlib.Core.List.{List, [], _∷_}
+use lib.Dec.{leb}
+use lib.ListN.{length, drop}
+use Rattle.signer.specs.Choice.{if_then_else_}
+use Rattle.delivery.specs.Limits.{Limits}
+use Rattle.delivery.specs.Bus.{isBoard}
+use Rattle.bench.specs.Events.{highFirst, eventBytes, eventFrom}
+use Rattle.bench.specs.Setups.{isMarkByte}
+use Rattle.bench.specs.Answers.{freshNumber}
+use Rattle.bench.specs.declared.event.Event.{Event}
+use Rattle.bench.specs.declared.answer.FreshAnswer.the-variants as fresh
+use Rattle.schedule.specs.declared.answer.Fault.{Fault}
+use Rattle.schedule.specs.declared.answer.Fault.the-variants.{EndsEarly, NoBus, NoMark, TooMany, LeftOver}
+use Rattle.schedule.specs.declared.answer.FileAnswer.{FileAnswer}
+use Rattle.schedule.specs.declared.answer.FileAnswer.the-variants.{Taken, Refused}
+
+-- the faults of a file by their numbers in the table; two of them are those of the call for a fresh bench
+unfoldable pub faultNumber : Fault → ℕ
+faultNumber EndsEarly = 1
+faultNumber NoBus = freshNumber fresh.NoBus
+faultNumber NoMark = freshNumber fresh.NoMark
+faultNumber TooMany = 4
+faultNumber LeftOver = 5
+
+unfoldable pub fileNumber : FileAnswer → ℕ
+fileNumber Taken = 0
+fileNumber (Refused f) = faultNumber f
+
+-- What reading from the front of some bytes gives: what stands there, with the bytes after it, or the fault that was met.
+pub data Parse (A : Type 0) : Type 0 where
+  parsed : A → List ℕ → Parse A
+  fault : Fault → Parse A
+
+-- reading goes on after what was read, and a fault ends it
+unfoldable pub next : {A B : Type 0} → Parse A → (A → List ℕ → Parse B) → Parse B
+next (parsed x bs) f = f x bs
+next (fault x) f = fault x
+
+-- a byte that is due
+unfoldable pub byteDue : List ℕ → Parse ℕ
+byteDue [] = fault EndsEarly
+byteDue (b ∷ bs) = parsed b bs
+
+-- so many of one thing, one after another
+unfoldable pub manyDue : {A : Type 0} → (List ℕ → Parse A) → ℕ → List ℕ → Parse (List A)
+manyDue p zero bs = parsed [] bs
+manyDue p (suc k) bs = next (p bs) (λ x rest. next (manyDue p k rest) (λ xs rest′. parsed (x ∷ xs) rest′))
+
+-- The first section: n, and the marks of boards 1 to n, each looked at as it comes. What it says is the marks; n is how
+-- many they are.
+unfoldable pub markDue : List ℕ → Parse ℕ
+markDue bs = next (byteDue bs) (λ m rest. if isMarkByte m then parsed m rest else fault NoMark)
+
+abbrev pub marksDue : ℕ → List ℕ → Parse (List ℕ)
+marksDue n bs = manyDue markDue n bs
+
+unfoldable pub busDue : Limits → List ℕ → Parse (List ℕ)
+busDue L bs = next (byteDue bs) (λ n rest. if isBoard L n then marksDue n rest else fault NoBus)
+
+-- the count of events, in two bytes
+abbrev pub countBytes : ℕ
+countBytes = 2
+
+abbrev pub mostEvents : ℕ
+mostEvents = 4096
+
+unfoldable pub countDue : List ℕ → Parse ℕ
+countDue bs =
+    next
+    (byteDue bs)
+    (λ high rest.
+    next
+    (byteDue rest)
+    (λ low rest′. if leb (highFirst high low) mostEvents then parsed (highFirst high low) rest′ else fault TooMany))
+
+-- an event, all of whose bytes are due
+unfoldable pub eventDue : List ℕ → Parse Event
+eventDue bs = if leb eventBytes (length bs) then parsed (eventFrom bs) (drop eventBytes bs) else fault EndsEarly
+
+abbrev pub eventsDue : ℕ → List ℕ → Parse (List Event)
+eventsDue k bs = manyDue eventDue k bs
+
+-- The second section: the count, and as many events.
+unfoldable pub sectionDue : List ℕ → Parse (List Event)
+sectionDue bs = next (countDue bs) eventsDue
+
+-- nothing may follow the last event
+unfoldable pub nothingLeft : {A : Type 0} → A → List ℕ → Parse A
+nothingLeft x [] = parsed x []
+nothingLeft x (b ∷ bs) = fault LeftOver
+
+-- a file: the marks of its boards, and its events
+pub record File : Type 0 where
+  pub marks : List ℕ
+  pub events : List Event
+
+unfoldable pub fileDue : Limits → List ℕ → Parse File
+fileDue L bs =
+    next
+    (busDue L bs)
+    (λ ms rest. next (sectionDue rest) (λ es rest′. nothingLeft (record { marks = ms; events = es }) rest′))
+
+-- how a file is answered
+unfoldable pub answerOf : {A : Type 0} → Parse A → FileAnswer
+answerOf (parsed x rest) = Taken
+answerOf (fault f) = Refused f
+
+-- a file that is read can have so many bytes, and no more
+abbrev pub longestFile : Limits → ℕ
+longestFile L = 1 + L .boards + countBytes + eventBytes * mostEvents
