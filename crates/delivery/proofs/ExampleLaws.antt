@@ -15,7 +15,7 @@ use Rattle.delivery.specs.Limits.{limits}
 use Rattle.delivery.specs.Rounds.{coordinator, phaseOf, identifierOf}
 use Rattle.delivery.specs.Delivered.{nothingDelivered, logOf, heard, deliver}
 use Rattle.delivery.specs.Acceptance.{says, bears, allowed}
-use Rattle.delivery.specs.Examples.{nine-blank, blank-blank, nine-blank-blank, nine-alone, nine-nine-blank, unopened, Unopened, Letters}
+use Rattle.delivery.specs.Examples.{nine-blank, blank-blank, nine-blank-blank, nine-alone, nine-nine-blank, unopened, LetterE, LetterF, LetterG, LetterH, LetterI, LetterJ, LetterK}
 use Rattle.delivery.specs.declared.delivered.Delivered.{Delivered}
 use Rattle.delivery.proofs.TestLaws.{same-test, fails}
 use Rattle.delivery.proofs.OneRoundLaws.{some-value, value-some}
@@ -77,12 +77,12 @@ tallies = (
   record { opening = refl; blanks = refl; backers = refl; left = refl },
 )
 
--- no opening was heard, so no ballot with a value is accepted
-no-opening : Unopened 4
+-- letter k: no opening was heard, so no ballot with a value is accepted
+pub letter-k : LetterK
 unfolding
     heard logOf deliver nothingDelivered identifierOf phaseOf isWithin coordinator _and_ if_then_else_ nth setNth emptyLog
     entryAt withEntry
-no-opening v = (
+letter-k v = (
   refl,
   λ s w z.
       ballot-unopened
@@ -96,14 +96,21 @@ no-opening v = (
       (opening-unsent limits 4 (heard limits (unopened v)) 1 w (λ e. omega arith)),
 )
 
-pub letters : Letters
-letters =
-    record {
-      e = λ w. second 3 nine-blank 10 1 1 10 (tallies .0) (omega arith) w ∙ only 9 w (λ z. omega arith);
-      f = λ w. second 3 blank-blank 10 2 0 1 (tallies .1) (omega arith) w ∙ every w;
-      g = λ w. second 3 nine-blank-blank 10 2 1 1 (tallies .2) (omega arith) w ∙ every w;
-      h = λ w. second 3 nine-alone 10 0 1 0 (tallies .3) (omega arith) w ∙ none w;
-      i = λ w. second 4 nine-blank-blank 10 2 1 1 (tallies .4) (omega arith) w ∙ every w;
-      j = λ w. second 4 nine-nine-blank 10 1 2 10 (tallies .5) (omega arith) w ∙ only 9 w (λ z. omega arith);
-      k = no-opening;
-    }
+-- and letters e to j
+pub letter-e : LetterE
+letter-e w = second 3 nine-blank 10 1 1 10 (tallies .0) (omega arith) w ∙ only 9 w (λ z. omega arith)
+
+pub letter-f : LetterF
+letter-f w = second 3 blank-blank 10 2 0 1 (tallies .1) (omega arith) w ∙ every w
+
+pub letter-g : LetterG
+letter-g w = second 3 nine-blank-blank 10 2 1 1 (tallies .2) (omega arith) w ∙ every w
+
+pub letter-h : LetterH
+letter-h w = second 3 nine-alone 10 0 1 0 (tallies .3) (omega arith) w ∙ none w
+
+pub letter-i : LetterI
+letter-i w = second 4 nine-blank-blank 10 2 1 1 (tallies .4) (omega arith) w ∙ every w
+
+pub letter-j : LetterJ
+letter-j w = second 4 nine-nine-blank 10 1 2 10 (tallies .5) (omega arith) w ∙ only 9 w (λ z. omega arith)

@@ -114,12 +114,3 @@ LetterJ = Only 9 4 nine-nine-blank
 
 abbrev pub LetterK : Type 0
 LetterK = Unopened 4
-
-pub record Letters : Type 0 where
-  pub e : LetterE
-  pub f : LetterF
-  pub g : LetterG
-  pub h : LetterH
-  pub i : LetterI
-  pub j : LetterJ
-  pub k : LetterK

@@ -18,7 +18,7 @@ use Rattle.bench.specs.declared.answer.FreshAnswer.{FreshAnswer}
 use Rattle.bench.specs.declared.answer.FreshAnswer.the-variants as fresh
 use Rattle.bench.proofs.AnswerLaws.{fresh-within, fresh-made}
 use Rattle.bench.proofs.SetupLaws.{board-made}
-use Rattle.schedule.specs.Files.{faultNumber, fileNumber, Parse, parsed, fault, File, fileDue, answerOf}
+use Rattle.schedule.specs.Files.{faultNumber, fileNumber, Reading, got, fault, File, fileDue, answerOf}
 use Rattle.schedule.specs.Layouts.{All, none, more, Holdable}
 use Rattle.schedule.specs.Readings.{scheduleFrom}
 use Rattle.schedule.specs.Prints.{linesTo, boardLine, boardLines, refusedLine, printedFrom}
@@ -58,19 +58,19 @@ unfolding boardLine
 board-some k s = simp length-append (omega arith)
 
 -- so there is always a report: a file that is taken has a board, and the line of one that is refused begins with a word
-print-some : (p : Parse File) → ((f : File) (rest : List ℕ) → p ≡ parsed f rest → Holdable limits f) → 0 < length (printedFrom limits p)
+print-some : (p : Reading File) → ((f : File) (rest : List ℕ) → p ≡ got f rest → Holdable limits f) → 0 < length (printedFrom limits p)
 unfolding printedFrom refusedLine
-print-some (parsed f rest) h =
+print-some (got f rest) h =
     let c = after limits (freshBench limits (length (f .marks)) (f .marks)) (f .events) in
     let some : 0 < length (boardLines limits (length (f .marks)) c) = lines-some _ _ (within-low (limits .boards) _ (h f rest refl .boards)) (λ k. board-some k (shown limits c k)) in
     simp length-append (omega arith)
 print-some (fault w) h = omega arith
 
 -- a file that is refused has nothing to play, and one line to print
-nothing-played : (p : Parse File) (w : Fault) → answerOf p ≡ Refused w
+nothing-played : (p : Reading File) (w : Fault) → answerOf p ≡ Refused w
     → (scheduleFrom limits p .count ≡ 0) × (printedFrom limits p ≡ refusedLine w)
 unfolding answerOf scheduleFrom printedFrom
-nothing-played (parsed f rest) w e = let z : _≡_ {A = ℕ} 0 1 = cc in absurd (omega arith)
+nothing-played (got f rest) w e = let z : _≡_ {A = ℕ} 0 1 = cc in absurd (omega arith)
 nothing-played (fault v) w e = let same : v ≡ w = cc in (refl, ap refusedLine same)
 
 -- what holds of all of a list holds of its k-th

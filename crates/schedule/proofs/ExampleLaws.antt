@@ -7,7 +7,7 @@ use Rattle.signer.specs.Choice.{if_then_else_}
 use Rattle.signer.specs.Examples.{letter-d}
 use Rattle.delivery.specs.Limits.{limits}
 use Rattle.delivery.specs.Examples.{letter-a, letter-b, letter-c}
-use Rattle.delivery.proofs.ExampleLaws as delivery
+use Rattle.delivery.proofs.ExampleLaws.{letter-e, letter-f, letter-g, letter-h, letter-i, letter-j, letter-k}
 use Rattle.bench.specs.Answers.{freshNumber}
 use Rattle.bench.specs.Shows.{letterByte}
 use Rattle.bench.specs.Examples.{alone}
@@ -45,13 +45,13 @@ letters =
       b = letter-b;
       c = letter-c;
       d = letter-d;
-      e = delivery.letters .e;
-      f = delivery.letters .f;
-      g = delivery.letters .g;
-      h = delivery.letters .h;
-      i = delivery.letters .i;
-      j = delivery.letters .j;
-      k = delivery.letters .k;
+      e = letter-e;
+      f = letter-f;
+      g = letter-g;
+      h = letter-h;
+      i = letter-i;
+      j = letter-j;
+      k = letter-k;
       l = letter-l;
     }
 

@@ -1,5 +1,5 @@
 -- Laws of a whole file by its two sections, as the calls that read it make them out. Assumes nothing.
-use Prim.Native.Nat.{ℕ, zero, suc, _+_, _*_, _≤_, _<_}
+use Prim.Native.Nat.{ℕ, suc, _+_, _*_, _<_}
 use native.Mathlib.Omega.{arith}
 use mathlib.Core.Path.{_≡_, refl, sym, ap, subst, _∙_}
 use mathlib.Core.List.{List, [], _∷_, _++_}
@@ -11,8 +11,8 @@ use Rattle.delivery.specs.Bus.{isBoard}
 use Rattle.bench.specs.Events.{eventBytes}
 use Rattle.bench.specs.declared.event.Event.{Event}
 use Rattle.schedule.specs.Files.{
-  Parse,
-  parsed,
+  Reading,
+  got,
   fault,
   next,
   byteDue,
@@ -24,16 +24,14 @@ use Rattle.schedule.specs.Files.{
   File,
   fileDue,
 }
-use Rattle.schedule.specs.Layouts.{eventLaid, each, none, more, Bytes}
+use Rattle.schedule.specs.Layouts.{none, more, Bytes}
 use Rattle.schedule.specs.Readings.{padded, busFrom, busOf, sectionFrom, sectionOf}
 use Rattle.schedule.specs.declared.answer.Fault.{Fault}
 use Rattle.schedule.specs.declared.answer.Fault.the-variants.{EndsEarly, NoBus, LeftOver}
-use Rattle.schedule.specs.declared.answer.FileAnswer.{FileAnswer}
 use Rattle.schedule.specs.declared.answer.FileAnswer.the-variants.{Taken, Refused}
 use Rattle.schedule.specs.declared.bus.Bus.{Bus}
-use Rattle.schedule.specs.declared.section.Section.{Section}
 use Rattle.schedule.specs.declared.section.Section.the-variants as section
-use Rattle.schedule.proofs.ParseLaws.{next-parsed, next-fault}
+use Rattle.schedule.proofs.ReadingLaws.{next-got, next-fault}
 use Rattle.schedule.proofs.LayoutLaws.{bytes-rest, bus-laid, length-each, sectionLaid, section-laid}
 
 -- what a slice holds is bytes
@@ -57,7 +55,7 @@ bus-some L (b ∷ bs) h = refl
 pub record Fronted (L : Limits) (bs : List ℕ) (b : Bus) : Type 0 where
   pub marks : List ℕ
   pub rest : List ℕ
-  pub due : busDue L bs ≡ parsed marks rest
+  pub due : busDue L bs ≡ got marks rest
   pub read : b ≡ record { n = length marks; marks = padded L marks; answer = Taken }
   pub size : length bs ≡ 1 + b .n + length rest
   pub part : drop (1 + b .n) bs ≡ rest
@@ -67,9 +65,9 @@ pub bus-taken : (L : Limits) (bs : List ℕ) (b : Bus) → Bytes bs → b ≡ bu
 unfolding busFrom
 bus-taken L bs b u e t = go (busDue L bs) refl (sym (ap (λ (x : Bus). x .answer) e) ∙ t)
   where
-    go : (p : Parse (List ℕ)) → busDue L bs ≡ p → busFrom L p .answer ≡ Taken → Fronted L bs b
+    go : (p : Reading (List ℕ)) → busDue L bs ≡ p → busFrom L p .answer ≡ Taken → Fronted L bs b
     go (fault w) g a = let z : _≡_ {A = ℕ} 0 1 = cc in absurd (omega arith)
-    go (parsed ms cs) g a =
+    go (got ms cs) g a =
         let whole : bs ≡ length ms ∷ ms ++ cs = bus-laid L bs ms cs g .0 u in
         let is : b ≡ record { n = length ms; marks = padded L ms; answer = Taken } = e ∙ ap (busFrom L) g in
         let n : 1 + b .n ≡ length (length ms ∷ ms) = ap (λ (x : Bus). 1 + x .n) is ∙ omega arith in
@@ -89,15 +87,15 @@ pub bus-refused : (L : Limits) (bs : List ℕ) (w : Fault) → busOf L bs .answe
 unfolding busFrom
 bus-refused L bs w t = go (busDue L bs) t
   where
-    go : (p : Parse (List ℕ)) → busFrom L p .answer ≡ Refused w → p ≡ fault w
-    go (parsed ms cs) a = let z : _≡_ {A = ℕ} 0 1 = cc in absurd (omega arith)
+    go : (p : Reading (List ℕ)) → busFrom L p .answer ≡ Refused w → p ≡ fault w
+    go (got ms cs) a = let z : _≡_ {A = ℕ} 0 1 = cc in absurd (omega arith)
     go (fault v) a = let same : v ≡ w = cc in ap fault same
 
 -- the second, where it was read: its events, and what follows them
 pub record Sectioned (bs : List ℕ) (k : ℕ) : Type 0 where
   pub events : List Event
   pub rest : List ℕ
-  pub due : sectionDue bs ≡ parsed events rest
+  pub due : sectionDue bs ≡ got events rest
   pub count : length events ≡ k
   pub size : length bs ≡ countBytes + eventBytes * k + length rest
 
@@ -105,9 +103,9 @@ pub section-taken : (bs : List ℕ) (k : ℕ) → Bytes bs → sectionOf bs ≡ 
 unfolding sectionFrom
 section-taken bs k u t = go (sectionDue bs) refl t
   where
-    go : (p : Parse (List Event)) → sectionDue bs ≡ p → sectionFrom p ≡ section.Events k → Sectioned bs k
+    go : (p : Reading (List Event)) → sectionDue bs ≡ p → sectionFrom p ≡ section.Events k → Sectioned bs k
     go (fault w) g a = let z : _≡_ {A = ℕ} 0 1 = cc in absurd (omega arith)
-    go (parsed es cs) g a =
+    go (got es cs) g a =
         let whole : bs ≡ sectionLaid es ++ cs = section-laid bs es cs g .0 u in
         let count : length es ≡ k = cc in
         record {
@@ -122,8 +120,8 @@ pub section-refused : (bs : List ℕ) (w : Fault) → sectionOf bs ≡ section.R
 unfolding sectionFrom
 section-refused bs w t = go (sectionDue bs) t
   where
-    go : (p : Parse (List Event)) → sectionFrom p ≡ section.Refused w → p ≡ fault w
-    go (parsed es cs) a = let z : _≡_ {A = ℕ} 0 1 = cc in absurd (omega arith)
+    go : (p : Reading (List Event)) → sectionFrom p ≡ section.Refused w → p ≡ fault w
+    go (got es cs) a = let z : _≡_ {A = ℕ} 0 1 = cc in absurd (omega arith)
     go (fault v) a = let same : v ≡ w = cc in ap fault same
 
 -- nothing may follow the last event
@@ -132,7 +130,7 @@ unfolding nothingLeft
 left-over f [] h = absurd (omega arith)
 left-over f (b ∷ bs) h = refl
 
-left-none : (f : File) (bs : List ℕ) → length bs ≡ 0 → nothingLeft f bs ≡ parsed f []
+left-none : (f : File) (bs : List ℕ) → length bs ≡ 0 → nothingLeft f bs ≡ got f []
 unfolding nothingLeft
 left-none f [] h = refl
 left-none f (b ∷ bs) h = absurd (omega arith)
@@ -142,19 +140,19 @@ pub file-front : (L : Limits) (bs : List ℕ) (w : Fault) → busDue L bs ≡ fa
 unfolding fileDue
 file-front L bs w e = next-fault _ (busDue L bs) w e
 
-module _ (L : Limits) (bs ms cs : List ℕ) (e : busDue L bs ≡ parsed ms cs) where
+module _ (L : Limits) (bs ms cs : List ℕ) (e : busDue L bs ≡ got ms cs) where
   pub file-back : (w : Fault) → sectionDue cs ≡ fault w → fileDue L bs ≡ fault w
   unfolding fileDue
-  file-back w g = next-parsed _ (busDue L bs) ms cs e ∙ next-fault _ (sectionDue cs) w g
+  file-back w g = next-got _ (busDue L bs) ms cs e ∙ next-fault _ (sectionDue cs) w g
 
-  module _ (es : List Event) (ds : List ℕ) (g : sectionDue cs ≡ parsed es ds) where
+  module _ (es : List Event) (ds : List ℕ) (g : sectionDue cs ≡ got es ds) where
     ends : fileDue L bs ≡ nothingLeft (record { marks = ms; events = es }) ds
     unfolding fileDue
-    ends = next-parsed _ (busDue L bs) ms cs e ∙ next-parsed _ (sectionDue cs) es ds g
+    ends = next-got _ (busDue L bs) ms cs e ∙ next-got _ (sectionDue cs) es ds g
 
     -- then bytes may be left over, or none
     pub file-over : 0 < length ds → fileDue L bs ≡ fault LeftOver
     file-over h = ends ∙ left-over (record { marks = ms; events = es }) ds h
 
-    pub file-there : length ds ≡ 0 → fileDue L bs ≡ parsed (record { marks = ms; events = es }) []
+    pub file-there : length ds ≡ 0 → fileDue L bs ≡ got (record { marks = ms; events = es }) []
     file-there h = ends ∙ left-none (record { marks = ms; events = es }) ds h

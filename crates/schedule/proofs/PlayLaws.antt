@@ -1,6 +1,6 @@
 -- Laws of a file that was read and is played: the events that the player is handed, and the bench and the answers that it
 -- gives. Assumes nothing.
-use Prim.Native.Nat.{ℕ, zero, suc, _+_, _-_, _*_, _≤_, _<_}
+use Prim.Native.Nat.{ℕ, zero, suc, _+_, _-_, _*_, _≤_}
 use native.Mathlib.Omega.{arith}
 use mathlib.Core.Path.{_≡_, refl, sym, ap, _∙_}
 use mathlib.Core.List.{List, [], _∷_, _++_, append-nil}
@@ -16,17 +16,16 @@ use Rattle.bench.specs.declared.bench.Bench.{Bench}
 use Rattle.bench.specs.declared.event.Event.{Event}
 use Rattle.bench.proofs.SetupLaws.{fresh-alike}
 use Rattle.bench.proofs.RunLaws.{length-answers, played-bench, played-answers, nth-written}
-use Rattle.schedule.specs.Files.{Parse, parsed, fault, countBytes, mostEvents, eventsDue, File, fileDue}
+use Rattle.schedule.specs.Files.{Reading, got, fault, countBytes, mostEvents, eventsDue, File, fileDue}
 use Rattle.schedule.specs.Layouts.{twoBytes, eventLaid, each, laid, Bytes, Holdable}
 use Rattle.schedule.specs.Readings.{padded, scheduleFrom, scheduleOf}
 use Rattle.schedule.specs.Prints.{eventLine, eventLines, boardLines, refusedLine, printedFrom, printed}
 use Rattle.schedule.specs.declared.answer.Fault.{Fault}
-use Rattle.schedule.specs.declared.answer.FileAnswer.{FileAnswer}
 use Rattle.schedule.specs.declared.answer.FileAnswer.the-variants.{Taken, Refused}
 use Rattle.schedule.specs.declared.file.Schedule.{Schedule}
-use Rattle.schedule.proofs.ParseLaws.{parsed-value}
+use Rattle.schedule.proofs.ReadingLaws.{got-value}
 use Rattle.schedule.proofs.LayoutLaws.{length-each, each-read, file-laid}
-use Rattle.schedule.proofs.ReadLaws.{events-there}
+use Rattle.schedule.proofs.SectionLaws.{events-there}
 use Rattle.schedule.proofs.PrintLaws.{lines-same}
 
 -- the marks read the same with 0 after them
@@ -51,7 +50,7 @@ padded-nth L ms (suc k) =
 events-laid : (es : List Event) → eventsIn (length es) (each eventLaid es) ≡ es
 events-laid es =
     let all : eventBytes * length es ≤ length (each eventLaid es) = omega (arith, length-each es) in
-    parsed-value
+    got-value
     (eventsIn (length es) (each eventLaid es))
     es
     (drop (eventBytes * length es) (each eventLaid es))
@@ -64,8 +63,8 @@ events-laid es =
 pub record Filed (L : Limits) (bs : List ℕ) (s : Schedule) : Type 0 where
   pub file : File
   pub rest : List ℕ
-  pub due : fileDue L bs ≡ parsed file rest
-  pub read : s ≡ scheduleFrom L (parsed file rest)
+  pub due : fileDue L bs ≡ got file rest
+  pub read : s ≡ scheduleFrom L (got file rest)
   pub holds : Holdable L file
   pub whole : bs ≡ laid file
 
@@ -73,9 +72,9 @@ pub file-taken : (L : Limits) (bs : List ℕ) (s : Schedule) → Bytes bs → s 
 unfolding scheduleFrom
 file-taken L bs s u e t = go (fileDue L bs) refl (sym (ap (λ (x : Schedule). x .answer) e) ∙ t)
   where
-    go : (p : Parse File) → fileDue L bs ≡ p → scheduleFrom L p .answer ≡ Taken → Filed L bs s
+    go : (p : Reading File) → fileDue L bs ≡ p → scheduleFrom L p .answer ≡ Taken → Filed L bs s
     go (fault w) g a = let z : _≡_ {A = ℕ} 0 1 = cc in absurd (omega arith)
-    go (parsed f cs) g a =
+    go (got f cs) g a =
         let l = file-laid L bs f cs g in
         record { file = f; rest = cs; due = g; read = e ∙ ap (scheduleFrom L) g; holds = l .1; whole = l .0 u }
 
@@ -84,8 +83,8 @@ pub file-refused : (L : Limits) (bs : List ℕ) (w : Fault) → scheduleOf L bs 
 unfolding scheduleFrom printedFrom
 file-refused L bs w t = go (fileDue L bs) t
   where
-    go : (p : Parse File) → scheduleFrom L p .answer ≡ Refused w → printedFrom L p ≡ refusedLine w
-    go (parsed f cs) a = let z : _≡_ {A = ℕ} 0 1 = cc in absurd (omega arith)
+    go : (p : Reading File) → scheduleFrom L p .answer ≡ Refused w → printedFrom L p ≡ refusedLine w
+    go (got f cs) a = let z : _≡_ {A = ℕ} 0 1 = cc in absurd (omega arith)
     go (fault v) a = let same : v ≡ w = cc in ap refusedLine same
 
 -- A file that was read: n, the marks and the count are its own, and within what there can be.

@@ -1,5 +1,5 @@
 -- How many bytes of a file are looked at: what follows the longest file and one byte more changes nothing. Assumes nothing.
-use Prim.Native.Nat.{ℕ, suc, _+_, _*_, _≤_, _<_}
+use Prim.Native.Nat.{ℕ, _+_, _*_, _≤_, _<_}
 use native.Mathlib.Omega.{arith}
 use native.Mathlib.Decide.{decLe}
 use borrow.Author.Tests.{leb-true, leb-false, le-leb}
@@ -8,7 +8,7 @@ use mathlib.Core.Bool.{true, false}
 use mathlib.Core.List.{List, [], _∷_, _++_}
 use mathlib.Core.Logic.{_⊎_, inl, inr, ⊎-elim}
 use lib.Dec.{leb}
-use lib.ListN.{length, take, drop, getD, length-append, length-take, length-drop, take-append-drop, List·getD-append}
+use lib.ListN.{length, take, drop, length-append, length-take, length-drop, take-append-drop}
 use lib.Seq.{take-all, drop-append-le}
 use Rattle.signer.specs.Choice.{if_then_else_}
 use Rattle.signer.proofs.ChoiceLaws.{if-true, if-false}
@@ -21,8 +21,8 @@ use Rattle.bench.specs.Setups.{isMarkByte}
 use Rattle.bench.specs.declared.event.Event.{Event}
 use Rattle.bench.proofs.RunLaws.{event-append}
 use Rattle.schedule.specs.Files.{
-  Parse,
-  parsed,
+  Reading,
+  got,
   fault,
   next,
   byteDue,
@@ -40,29 +40,9 @@ use Rattle.schedule.specs.Files.{
   longestFile,
 }
 use Rattle.schedule.specs.declared.answer.Fault.{Fault}
-use Rattle.schedule.specs.declared.answer.Fault.the-variants.{EndsEarly, NoBus, NoMark, TooMany, LeftOver}
+use Rattle.schedule.specs.declared.answer.Fault.the-variants.{EndsEarly, NoBus, NoMark, TooMany}
 use Rattle.schedule.proofs.LayoutLaws.{count-went}
-use Rattle.schedule.proofs.ParseLaws.{
-  parsed-no-fault,
-  parsed-rest,
-  parsed-value,
-  fault-value,
-  next-parsed,
-  next-fault,
-  next-next,
-  Went,
-  went,
-  stopped,
-  next-went,
-  Steady,
-  steady-wider,
-  steady-parsed,
-  steady-fault,
-  steady-byte,
-  steady-next,
-  steady-if,
-  steady-many,
-}
+use Rattle.schedule.proofs.ReadingLaws.{got-no-fault, got-rest, got-value, fault-value, next-got, next-fault, next-next, Steady, steady-wider, steady-got, steady-fault, steady-byte, steady-next, steady-if, steady-many}
 
 mark-steady : Steady markDue 1
 unfolding markDue
@@ -73,7 +53,7 @@ mark-steady =
     1
     0
     steady-byte
-    (λ m bs cs e. steady-if (isMarkByte m) (parsed m) (λ bs. fault NoMark) 0 (λ h. steady-parsed m) (λ h. steady-fault NoMark))
+    (λ m bs cs e. steady-if (isMarkByte m) (got m) (λ bs. fault NoMark) 0 (λ h. steady-got m) (λ h. steady-fault NoMark))
 
 bus-steady : (L : Limits) → Steady (busDue L) (1 + L .boards)
 unfolding busDue
@@ -112,10 +92,10 @@ count-steady =
     (λ low ds es g.
     steady-if
     (leb (highFirst high low) mostEvents)
-    (parsed (highFirst high low))
+    (got (highFirst high low))
     (λ bs. fault TooMany)
     0
-    (λ h. steady-parsed (highFirst high low))
+    (λ h. steady-got (highFirst high low))
     (λ h. steady-fault TooMany)))
 
 event-steady : Steady eventDue eventBytes
@@ -128,33 +108,33 @@ event-steady =
     }
   where
     goes : (bs more : List ℕ) (e : Event) (rest : List ℕ) → (leb eventBytes (length bs) ≡ true) ⊎ (leb eventBytes (length bs) ≡ false)
-        → (if leb eventBytes (length bs) then parsed (eventFrom bs) (drop eventBytes bs) else fault EndsEarly) ≡ parsed e rest
-        → (if leb eventBytes (length (bs ++ more)) then parsed (eventFrom (bs ++ more)) (drop eventBytes (bs ++ more)) else fault EndsEarly) ≡ parsed e (rest ++ more)
+        → (if leb eventBytes (length bs) then got (eventFrom bs) (drop eventBytes bs) else fault EndsEarly) ≡ got e rest
+        → (if leb eventBytes (length (bs ++ more)) then got (eventFrom (bs ++ more)) (drop eventBytes (bs ++ more)) else fault EndsEarly) ≡ got e (rest ++ more)
     goes bs more e rest (inl h) g =
         let enough : eventBytes ≤ length bs = leb-true eventBytes (length bs) h in
-        let same : parsed (eventFrom bs) (drop eventBytes bs) ≡ parsed e rest = sym (if-true _ _ _ h) ∙ g in
+        let same : got (eventFrom bs) (drop eventBytes bs) ≡ got e rest = sym (if-true _ _ _ h) ∙ g in
         if-true _ _ _ (le-leb eventBytes (length (bs ++ more)) (omega (arith, enough, length-append bs more)))
         ∙ rw (
           event-append bs more enough,
           drop-append-le eventBytes bs more enough,
-          parsed-value _ _ _ _ same,
-          parsed-rest _ _ _ _ same,
+          got-value _ _ _ _ same,
+          got-rest _ _ _ _ same,
         )
-    goes bs more e rest (inr h) g = absurd (parsed-no-fault e rest EndsEarly (sym g ∙ if-false _ _ _ h))
+    goes bs more e rest (inr h) g = absurd (got-no-fault e rest EndsEarly (sym g ∙ if-false _ _ _ h))
 
     stops : (bs more : List ℕ) (w : Fault) → (leb eventBytes (length bs) ≡ true) ⊎ (leb eventBytes (length bs) ≡ false)
-        → (if leb eventBytes (length bs) then parsed (eventFrom bs) (drop eventBytes bs) else fault EndsEarly) ≡ fault w
-        → ((if leb eventBytes (length (bs ++ more)) then parsed (eventFrom (bs ++ more)) (drop eventBytes (bs ++ more)) else fault EndsEarly) ≡ fault w)
+        → (if leb eventBytes (length bs) then got (eventFrom bs) (drop eventBytes bs) else fault EndsEarly) ≡ fault w
+        → ((if leb eventBytes (length (bs ++ more)) then got (eventFrom (bs ++ more)) (drop eventBytes (bs ++ more)) else fault EndsEarly) ≡ fault w)
         ⊎ ((w ≡ EndsEarly) × (length bs < eventBytes))
-    stops bs more w (inl h) g = absurd (parsed-no-fault _ _ w (sym (if-true _ _ _ h) ∙ g))
+    stops bs more w (inl h) g = absurd (got-no-fault _ _ w (sym (if-true _ _ _ h) ∙ g))
     stops bs more w (inr h) g = inr (fault-value {A = Event} w EndsEarly (sym g ∙ if-false _ _ _ h), leb-false eventBytes (length bs) h)
 
     takes : (bs : List ℕ) (e : Event) (rest : List ℕ) → (leb eventBytes (length bs) ≡ true) ⊎ (leb eventBytes (length bs) ≡ false)
-        → (if leb eventBytes (length bs) then parsed (eventFrom bs) (drop eventBytes bs) else fault EndsEarly) ≡ parsed e rest
+        → (if leb eventBytes (length bs) then got (eventFrom bs) (drop eventBytes bs) else fault EndsEarly) ≡ got e rest
         → length bs ≤ eventBytes + length rest
     takes bs e rest (inl h) g =
-        omega (arith, length-drop eventBytes bs, ap length (parsed-rest (eventFrom bs) e (drop eventBytes bs) rest (sym (if-true _ _ _ h) ∙ g)))
-    takes bs e rest (inr h) g = absurd (parsed-no-fault e rest EndsEarly (sym g ∙ if-false _ _ _ h))
+        omega (arith, length-drop eventBytes bs, ap length (got-rest (eventFrom bs) e (drop eventBytes bs) rest (sym (if-true _ _ _ h) ∙ g)))
+    takes bs e rest (inr h) g = absurd (got-no-fault e rest EndsEarly (sym g ∙ if-false _ _ _ h))
 
 section-steady : Steady sectionDue (countBytes + eventBytes * mostEvents)
 unfolding sectionDue
@@ -170,8 +150,8 @@ section-steady =
     steady-wider (manyDue eventDue k) (eventBytes * k) (eventBytes * mostEvents) (omega (arith, few)) (steady-many eventDue eventBytes k event-steady))
 
 -- a file but for its end: n, the marks and the events, whatever follows
-abbrev untilEnd : Limits → List ℕ → Parse File
-untilEnd L bs = next (busDue L bs) (λ ms rest. next (sectionDue rest) (λ es rest′. parsed (record { marks = ms; events = es }) rest′))
+abbrev untilEnd : Limits → List ℕ → Reading File
+untilEnd L bs = next (busDue L bs) (λ ms rest. next (sectionDue rest) (λ es rest′. got (record { marks = ms; events = es }) rest′))
 
 until-steady : (L : Limits) → Steady (untilEnd L) (longestFile L)
 until-steady L =
@@ -186,7 +166,7 @@ until-steady L =
     (1 + L .boards)
     (countBytes + eventBytes * mostEvents + 0)
     (bus-steady L)
-    (λ ms bs cs e. steady-next sectionDue _ (countBytes + eventBytes * mostEvents) 0 section-steady (λ es ds fs g. steady-parsed _)))
+    (λ ms bs cs e. steady-next sectionDue _ (countBytes + eventBytes * mostEvents) 0 section-steady (λ es ds fs g. steady-got _)))
 
 -- and then its end
 then-end : (L : Limits) (bs : List ℕ) → next (untilEnd L bs) nothingLeft ≡ fileDue L bs
@@ -202,11 +182,11 @@ overlong L bs more h = sym (then-end L (bs ++ more)) ∙ go (untilEnd L bs) refl
     left f [] l = absurd (omega (arith, l))
     left f (c ∷ cs) l = refl
 
-    go : (p : Parse File) → untilEnd L bs ≡ p → next (untilEnd L (bs ++ more)) nothingLeft ≡ next (untilEnd L bs) nothingLeft
-    go (parsed f rest) e =
-        next-parsed nothingLeft _ f (rest ++ more) (until-steady L .goes bs more f rest e)
+    go : (p : Reading File) → untilEnd L bs ≡ p → next (untilEnd L (bs ++ more)) nothingLeft ≡ next (untilEnd L bs) nothingLeft
+    go (got f rest) e =
+        next-got nothingLeft _ f (rest ++ more) (until-steady L .goes bs more f rest e)
         ∙ left f rest (omega (arith, until-steady L .takes bs f rest e, h))
-        ∙ sym (next-parsed nothingLeft _ f rest e)
+        ∙ sym (next-got nothingLeft _ f rest e)
     go (fault w) e =
         ⊎-elim
         (λ l. next-fault nothingLeft _ w l ∙ sym (next-fault nothingLeft _ w e))

@@ -30,34 +30,34 @@ fileNumber Taken = 0
 fileNumber (Refused f) = faultNumber f
 
 -- What reading from the front of some bytes gives: what stands there, with the bytes after it, or the fault that was met.
-pub data Parse (A : Type 0) : Type 0 where
-  parsed : A → List ℕ → Parse A
-  fault : Fault → Parse A
+pub data Reading (A : Type 0) : Type 0 where
+  got : A → List ℕ → Reading A
+  fault : Fault → Reading A
 
 -- reading goes on after what was read, and a fault ends it
-unfoldable pub next : {A B : Type 0} → Parse A → (A → List ℕ → Parse B) → Parse B
-next (parsed x bs) f = f x bs
+unfoldable pub next : {A B : Type 0} → Reading A → (A → List ℕ → Reading B) → Reading B
+next (got x bs) f = f x bs
 next (fault x) f = fault x
 
 -- a byte that is due
-unfoldable pub byteDue : List ℕ → Parse ℕ
+unfoldable pub byteDue : List ℕ → Reading ℕ
 byteDue [] = fault EndsEarly
-byteDue (b ∷ bs) = parsed b bs
+byteDue (b ∷ bs) = got b bs
 
 -- so many of one thing, one after another
-unfoldable pub manyDue : {A : Type 0} → (List ℕ → Parse A) → ℕ → List ℕ → Parse (List A)
-manyDue p zero bs = parsed [] bs
-manyDue p (suc k) bs = next (p bs) (λ x rest. next (manyDue p k rest) (λ xs rest′. parsed (x ∷ xs) rest′))
+unfoldable pub manyDue : {A : Type 0} → (List ℕ → Reading A) → ℕ → List ℕ → Reading (List A)
+manyDue p zero bs = got [] bs
+manyDue p (suc k) bs = next (p bs) (λ x rest. next (manyDue p k rest) (λ xs rest′. got (x ∷ xs) rest′))
 
 -- The first section: n, and the marks of boards 1 to n, each looked at as it comes. What it says is the marks; n is how
 -- many they are.
-unfoldable pub markDue : List ℕ → Parse ℕ
-markDue bs = next (byteDue bs) (λ m rest. if isMarkByte m then parsed m rest else fault NoMark)
+unfoldable pub markDue : List ℕ → Reading ℕ
+markDue bs = next (byteDue bs) (λ m rest. if isMarkByte m then got m rest else fault NoMark)
 
-abbrev pub marksDue : ℕ → List ℕ → Parse (List ℕ)
+abbrev pub marksDue : ℕ → List ℕ → Reading (List ℕ)
 marksDue n bs = manyDue markDue n bs
 
-unfoldable pub busDue : Limits → List ℕ → Parse (List ℕ)
+unfoldable pub busDue : Limits → List ℕ → Reading (List ℕ)
 busDue L bs = next (byteDue bs) (λ n rest. if isBoard L n then marksDue n rest else fault NoBus)
 
 -- the count of events, in two bytes
@@ -67,29 +67,29 @@ countBytes = 2
 abbrev pub mostEvents : ℕ
 mostEvents = 4096
 
-unfoldable pub countDue : List ℕ → Parse ℕ
+unfoldable pub countDue : List ℕ → Reading ℕ
 countDue bs =
     next
     (byteDue bs)
     (λ high rest.
     next
     (byteDue rest)
-    (λ low rest′. if leb (highFirst high low) mostEvents then parsed (highFirst high low) rest′ else fault TooMany))
+    (λ low rest′. if leb (highFirst high low) mostEvents then got (highFirst high low) rest′ else fault TooMany))
 
 -- an event, all of whose bytes are due
-unfoldable pub eventDue : List ℕ → Parse Event
-eventDue bs = if leb eventBytes (length bs) then parsed (eventFrom bs) (drop eventBytes bs) else fault EndsEarly
+unfoldable pub eventDue : List ℕ → Reading Event
+eventDue bs = if leb eventBytes (length bs) then got (eventFrom bs) (drop eventBytes bs) else fault EndsEarly
 
-abbrev pub eventsDue : ℕ → List ℕ → Parse (List Event)
+abbrev pub eventsDue : ℕ → List ℕ → Reading (List Event)
 eventsDue k bs = manyDue eventDue k bs
 
 -- The second section: the count, and as many events.
-unfoldable pub sectionDue : List ℕ → Parse (List Event)
+unfoldable pub sectionDue : List ℕ → Reading (List Event)
 sectionDue bs = next (countDue bs) eventsDue
 
 -- nothing may follow the last event
-unfoldable pub nothingLeft : {A : Type 0} → A → List ℕ → Parse A
-nothingLeft x [] = parsed x []
+unfoldable pub nothingLeft : {A : Type 0} → A → List ℕ → Reading A
+nothingLeft x [] = got x []
 nothingLeft x (b ∷ bs) = fault LeftOver
 
 -- a file: the marks of its boards, and its events
@@ -97,15 +97,15 @@ pub record File : Type 0 where
   pub marks : List ℕ
   pub events : List Event
 
-unfoldable pub fileDue : Limits → List ℕ → Parse File
+unfoldable pub fileDue : Limits → List ℕ → Reading File
 fileDue L bs =
     next
     (busDue L bs)
     (λ ms rest. next (sectionDue rest) (λ es rest′. nothingLeft (record { marks = ms; events = es }) rest′))
 
 -- how a file is answered
-unfoldable pub answerOf : {A : Type 0} → Parse A → FileAnswer
-answerOf (parsed x rest) = Taken
+unfoldable pub answerOf : {A : Type 0} → Reading A → FileAnswer
+answerOf (got x rest) = Taken
 answerOf (fault f) = Refused f
 
 -- a file that is read can have so many bytes, and no more

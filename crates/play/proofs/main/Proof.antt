@@ -1,9 +1,9 @@
 -- `main` meets its contract: what was written of the report is within its room. Assumes what the C library's read and
 -- write do.
 use borrow.Author.Needs.{needs}
-use Prim.Native.Nat.{ℕ, _≤_}
+use Prim.Native.Nat.{_≤_}
 use native.Mathlib.Omega.{arith}
-use mathlib.Core.Path.{_≡_, sym, _∙_}
+use mathlib.Core.Path.{sym, _∙_}
 use lib.ListN.{length}
 use lib.Seq.{length-take-le}
 use Rattle.schedule.proofs.PrintLaws.{written-within}

@@ -3,7 +3,7 @@
 use borrow.Author.Needs.{needs}
 use Prim.Native.Nat.{ℕ, _+_, _-_, _*_, _≤_}
 use native.Mathlib.Omega.{arith}
-use mathlib.Core.Path.{_≡_, sym, ap, subst, _∙_}
+use mathlib.Core.Path.{_≡_, ap, subst, _∙_}
 use mathlib.Core.List.{List, _++_}
 use lib.ListN.{length, take, drop}
 use borrow.Rule.Slice.PartAt.{part-to-end}
@@ -12,9 +12,8 @@ use Rattle.bench.specs.Events.{eventBytes}
 use Rattle.bench.specs.Runs.{playedOf, answersAfter}
 use Rattle.bench.specs.declared.play.Played.{Played}
 use Rattle.schedule.specs.Files.{mostEvents}
-use Rattle.schedule.specs.Prints.{eventLines, boardLines, printed, reportFrom, bufferFrom, longestPrint, PutAt}
+use Rattle.schedule.specs.Prints.{eventLines, boardLines, printed, reportFrom, bufferFrom, longestPrint}
 use Rattle.schedule.specs.declared.report.Report.{Report}
-use Rattle.schedule.specs.declared.report.Report.the-variants.{Written, Short}
 use Rattle.schedule.proofs.FileLaws.{bytes-of}
 use Rattle.schedule.proofs.PrintLaws.{report-short, report-written}
 use Rattle.schedule.proofs.PlayLaws.{Filed, file-taken, few-boards, few-events, start-within, print-played}

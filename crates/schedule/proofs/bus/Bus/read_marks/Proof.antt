@@ -2,18 +2,17 @@
 -- 0 after them, and reading all is reading those that are left. Assumes nothing.
 use borrow.Author.Needs.{needs}
 use borrow.Author.Tests.{not-true, not-false}
-use Prim.Native.Nat.{ℕ, _+_, _-_, _≤_, _<_}
+use Prim.Native.Nat.{ℕ, _-_, _≤_, _<_}
 use native.Mathlib.Omega.{arith}
 use mathlib.Core.Path.{_≡_, refl, sym, ap, _∙_}
 use mathlib.Core.List.{List}
 use lib.ListN.{length, take, drop, getD, set}
 use lib.Seq.{length-take-le}
 use Rattle.delivery.specs.Limits.{limits}
-use Rattle.schedule.specs.Files.{Parse, parsed, fault, marksDue}
+use Rattle.schedule.specs.Files.{got, marksDue}
 use Rattle.schedule.specs.Readings.{padded, busFrom}
 use Rattle.schedule.specs.declared.answer.FileAnswer.the-variants.{Taken}
-use Rattle.schedule.specs.declared.bus.Bus.{Bus}
-use Rattle.schedule.proofs.ReadLaws.{marksLeft, marks-start, marks-end, marks-cut, marks-wrong, marks-next, padded-next}
+use Rattle.schedule.proofs.SectionLaws.{marksLeft, marks-start, marks-end, marks-cut, marks-wrong, marks-next, padded-next}
 use Rattle.schedule.proofs.bus.Bus.read_marks.Statement.{statement}
 use Rattle.schedule.proofs.bus.Bus.read_marks.Tie as tie
 
@@ -97,7 +96,7 @@ returns-3 c =
     let bs = a .bytes .now in
     let end : l .k ≡ a .n = omega arith in
     let size : length (take (a .n) bs) ≡ a .n = length-take-le (a .n) bs (omega arith) in
-    let read : marksDue (a .n) bs ≡ parsed (take (a .n) bs) (drop (a .n) bs) = l .inv .3 ∙ ap (λ (m : ℕ). marksLeft (a .n) m bs) end ∙ marks-end (a .n) bs in
+    let read : marksDue (a .n) bs ≡ got (take (a .n) bs) (drop (a .n) bs) = l .inv .3 ∙ ap (λ (m : ℕ). marksLeft (a .n) m bs) end ∙ marks-end (a .n) bs in
     ap (λ (ms : List ℕ). record { n = a .n; marks = ms; answer = Taken }) (l .inv .2 ∙ ap (λ (m : ℕ). padded limits (take m bs)) end)
     ∙ ap (λ (m : ℕ). record { n = m; marks = padded limits (take (a .n) bs); answer = Taken }) (sym size)
     ∙ ap (busFrom limits) (sym read)

@@ -1,6 +1,6 @@
 -- `Schedule::read` meets its contract: a fault of the first section is the file's. Assumes nothing.
 use borrow.Author.Needs.{needs}
-use mathlib.Core.Path.{_≡_, sym, ap, _∙_}
+use mathlib.Core.Path.{sym, ap, _∙_}
 use Rattle.delivery.specs.Limits.{limits}
 use Rattle.schedule.specs.Readings.{scheduleFrom}
 use Rattle.schedule.specs.declared.bus.Bus.{Bus}

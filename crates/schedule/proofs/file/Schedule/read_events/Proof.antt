@@ -1,23 +1,17 @@
 -- `Schedule::read_events` meets its contract: the first section was read, so the second begins after it, and what is
 -- longer than both goes on after the last event. Assumes nothing.
 use borrow.Author.Needs.{needs}
-use Prim.Native.Nat.{ℕ, _+_, _-_, _*_, _≤_, _<_}
+use Prim.Native.Nat.{ℕ, _+_, _-_, _<_}
 use native.Mathlib.Omega.{arith}
-use mathlib.Core.Path.{_≡_, refl, sym, ap, _∙_}
-use mathlib.Core.List.{List, []}
-use lib.ListN.{length, take, drop}
+use mathlib.Core.Path.{_≡_, sym, ap, _∙_}
+use lib.ListN.{length}
 use borrow.Rule.Slice.PartAt.{part-to-end}
 use Rattle.delivery.specs.Limits.{limits}
-use Rattle.bench.specs.Events.{eventBytes}
-use Rattle.schedule.specs.Files.{Parse, parsed, fault, countBytes, sectionDue, File, fileDue}
-use Rattle.schedule.specs.Readings.{padded, sectionOf, scheduleFrom, scheduleOf}
-use Rattle.schedule.specs.declared.answer.Fault.{Fault}
-use Rattle.schedule.specs.declared.answer.Fault.the-variants.{LeftOver}
+use Rattle.schedule.specs.Files.{countBytes}
+use Rattle.schedule.specs.Readings.{padded, sectionOf, scheduleFrom}
 use Rattle.schedule.specs.declared.answer.FileAnswer.the-variants.{Taken}
 use Rattle.schedule.specs.declared.bus.Bus.{Bus}
 use Rattle.schedule.specs.declared.file.Schedule.{Schedule}
-use Rattle.schedule.specs.declared.section.Section.{Section}
-use Rattle.schedule.specs.declared.section.Section.the-variants as section
 use Rattle.schedule.proofs.FileLaws.{bytes-of, Fronted, bus-taken, Sectioned, section-taken, section-refused, file-back, file-over, file-there}
 use Rattle.schedule.proofs.file.Schedule.read_events.Statement.{statement}
 use Rattle.schedule.proofs.file.Schedule.read_events.Tie as tie

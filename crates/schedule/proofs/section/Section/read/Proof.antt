@@ -2,7 +2,7 @@
 use borrow.Author.Needs.{needs}
 use native.Mathlib.Omega.{arith}
 use mathlib.Core.Path.{sym}
-use Rattle.schedule.proofs.ReadLaws.{section-cut, section-many, section-short, section-there}
+use Rattle.schedule.proofs.SectionLaws.{section-cut, section-many, section-short, section-there}
 use Rattle.schedule.proofs.section.Section.read.Statement.{statement}
 use Rattle.schedule.proofs.section.Section.read.Tie as tie
 
@@ -30,7 +30,7 @@ add-count c = omega (arith, c .shared-slice-known2 .given 0, c .shared-slice-kno
 returns-2 : tie.Need-returns-2
 returns-2 c =
     let e = c .before .before .before in
-    sym (section-many (e .before .args .bytes .now) (e .if1 .left) (c .if2 .taken))
+    sym (section-many (e .before .args .bytes .now) (e .if1 .left) (omega arith))
 
 sub-if3 : tie.Need-sub-if3
 sub-if3 c = search needs
@@ -44,12 +44,12 @@ mul-if3 c = search needs
 returns-3 : tie.Need-returns-3
 returns-3 c =
     let e = c .before .before .before .before in
-    sym (section-short (e .before .args .bytes .now) (e .if1 .left) (c .before .if2 .left) (omega arith))
+    sym (section-short (e .before .args .bytes .now) (e .if1 .left) (omega arith) (omega arith))
 
 returns-4 : tie.Need-returns-4
 returns-4 c =
     let e = c .before .before .before .before in
-    sym (section-there (e .before .args .bytes .now) (e .if1 .left) (c .before .if2 .left) (omega arith))
+    sym (section-there (e .before .args .bytes .now) (e .if1 .left) (omega arith) (omega arith))
 
 pub read-spec : {M : Type 1} → statement M
 read-spec =

@@ -20,8 +20,8 @@ use Rattle.bench.specs.Runs.{eventsIn}
 use Rattle.bench.specs.declared.event.Event.{Event}
 use Rattle.bench.proofs.RunLaws.{events-none, events-more, length-events}
 use Rattle.schedule.specs.Files.{
-  Parse,
-  parsed,
+  Reading,
+  got,
   fault,
   next,
   byteDue,
@@ -38,26 +38,25 @@ use Rattle.schedule.specs.Files.{
 use Rattle.schedule.specs.Readings.{padded, sectionFrom, sectionOf}
 use Rattle.schedule.specs.declared.answer.Fault.{Fault}
 use Rattle.schedule.specs.declared.answer.Fault.the-variants.{EndsEarly, NoMark, TooMany}
-use Rattle.schedule.specs.declared.section.Section.{Section}
 use Rattle.schedule.specs.declared.section.Section.the-variants as section
-use Rattle.schedule.proofs.ParseLaws.{next-parsed, next-fault, next-next, next-same, many-goes, many-stops}
+use Rattle.schedule.proofs.ReadingLaws.{next-got, next-fault, next-next, next-same, many-goes, many-stops}
 use Rattle.schedule.proofs.LayoutLaws.{mark-undoes}
 
 -- of n marks, those that are left after the first k: reading these, after those
-abbrev pub marksLeft : ℕ → ℕ → List ℕ → Parse (List ℕ)
-marksLeft n k bs = next (marksDue (n - k) (drop k bs)) (λ ms rest. parsed (take k bs ++ ms) rest)
+abbrev pub marksLeft : ℕ → ℕ → List ℕ → Reading (List ℕ)
+marksLeft n k bs = next (marksDue (n - k) (drop k bs)) (λ ms rest. got (take k bs ++ ms) rest)
 
 pub marks-start : (n : ℕ) (bs : List ℕ) → marksDue n bs ≡ marksLeft n 0 bs
 marks-start n bs =
     let e : n ≡ n - 0 = omega arith in
     ap (λ (m : ℕ). marksDue m bs) e ∙ sym (next-same (marksDue (n - 0) bs))
 
-pub marks-end : (n : ℕ) (bs : List ℕ) → marksLeft n n bs ≡ parsed (take n bs) (drop n bs)
+pub marks-end : (n : ℕ) (bs : List ℕ) → marksLeft n n bs ≡ got (take n bs) (drop n bs)
 unfolding manyDue next
 marks-end n bs =
     let e : n - n ≡ 0 = omega arith in
-    ap (λ (m : ℕ). next (marksDue m (drop n bs)) (λ ms rest. parsed (take n bs ++ ms) rest)) e
-    ∙ ap (λ (ms : List ℕ). parsed ms (drop n bs)) (append-nil (take n bs))
+    ap (λ (m : ℕ). next (marksDue m (drop n bs)) (λ ms rest. got (take n bs ++ ms) rest)) e
+    ∙ ap (λ (ms : List ℕ). got ms (drop n bs)) (append-nil (take n bs))
 
 module _ (n k : ℕ) (bs : List ℕ) (h : k < n) where
   one-more : n - k ≡ suc (n - (k + 1))
@@ -91,11 +90,11 @@ module _ (n k : ℕ) (bs : List ℕ) (h : k < n) where
     unfolding next
     marks-next t =
         ap
-        (λ (p : Parse (List ℕ)). next p (λ ms rest. parsed (take k bs ++ ms) rest))
+        (λ (p : Reading (List ℕ)). next p (λ ms rest. got (take k bs ++ ms) rest))
         (ap (λ (m : ℕ). marksDue m (drop k bs)) one-more
         ∙ many-goes markDue (n - (k + 1)) (drop k bs) (getD bs k 0) (drop (k + 1) bs) (ap markDue here ∙ mark-undoes .is-read (getD bs k 0) (drop (k + 1) bs) t))
         ∙ next-next (marksDue (n - (k + 1)) (drop (k + 1) bs)) _ _
-        ∙ ap (next (marksDue (n - (k + 1)) (drop (k + 1) bs))) (fun-ext (λ ms. fun-ext (λ rest. ap (λ (xs : List ℕ). parsed xs rest) (joined ms))))
+        ∙ ap (next (marksDue (n - (k + 1)) (drop (k + 1) bs))) (fun-ext (λ ms. fun-ext (λ rest. ap (λ (xs : List ℕ). got xs rest) (joined ms))))
       where
         joined : (ms : List ℕ) → take k bs ++ getD bs k 0 ∷ ms ≡ take (k + 1) bs ++ ms
         joined ms = sym (ap (λ (j : ℕ). take j bs ++ ms) (add-one k) ∙ ap (λ (xs : List ℕ). xs ++ ms) (take-suc bs k 0 l) ∙ append-assoc (take k bs) (getD bs k 0 ∷ []) ms)
@@ -113,18 +112,18 @@ module _ (n k : ℕ) (bs : List ℕ) (h : k < n) where
         ∙ ap (λ (xs : List ℕ). xs ++ rest) (sym (ap (λ (j : ℕ). take j bs) (add-one k) ∙ take-suc bs k 0 l))
 
 -- as many events as are asked for, if their bytes are there
-pub events-there : (k : ℕ) (bs : List ℕ) → eventBytes * k ≤ length bs → eventsDue k bs ≡ parsed (eventsIn k bs) (drop (eventBytes * k) bs)
+pub events-there : (k : ℕ) (bs : List ℕ) → eventBytes * k ≤ length bs → eventsDue k bs ≡ got (eventsIn k bs) (drop (eventBytes * k) bs)
 unfolding manyDue eventDue
-events-there zero bs h = ap (λ (es : List Event). parsed es bs) (sym (events-none bs))
+events-there zero bs h = ap (λ (es : List Event). got es bs) (sym (events-none bs))
 events-there (suc k) bs h =
     let rest = drop eventBytes bs in
     let enough : eventBytes ≤ length bs = omega arith in
     let others : eventBytes * k ≤ length rest = omega (arith, length-drop eventBytes bs) in
     let far : eventBytes + eventBytes * k ≡ eventBytes * suc k = omega arith in
     many-goes eventDue k bs (eventFrom bs) rest (if-true (leb eventBytes (length bs)) _ _ (le-leb eventBytes (length bs) enough))
-    ∙ next-parsed _ _ (eventsIn k rest) (drop (eventBytes * k) rest) (events-there k rest others)
-    ∙ ap (λ (es : List Event). parsed es (drop (eventBytes * k) rest)) (sym (events-more k bs))
-    ∙ ap (λ (cs : List ℕ). parsed (eventsIn (suc k) bs) cs) (drop-drop (eventBytes * k) eventBytes bs ∙ ap (λ (m : ℕ). drop m bs) far)
+    ∙ next-got _ _ (eventsIn k rest) (drop (eventBytes * k) rest) (events-there k rest others)
+    ∙ ap (λ (es : List Event). got es (drop (eventBytes * k) rest)) (sym (events-more k bs))
+    ∙ ap (λ (cs : List ℕ). got (eventsIn (suc k) bs) cs) (drop-drop (eventBytes * k) eventBytes bs ∙ ap (λ (m : ℕ). drop m bs) far)
 
 pub events-cut : (k : ℕ) (bs : List ℕ) → length bs < eventBytes * k → eventsDue k bs ≡ fault EndsEarly
 unfolding eventDue
@@ -151,7 +150,7 @@ count-cut (b ∷ []) h = refl
 count-cut (b ∷ c ∷ bs) h = absurd (omega arith)
 
 count-there : (bs : List ℕ) → countBytes ≤ length bs
-    → countDue bs ≡ (if leb (countAt bs) mostEvents then parsed (countAt bs) (drop countBytes bs) else fault TooMany)
+    → countDue bs ≡ (if leb (countAt bs) mostEvents then got (countAt bs) (drop countBytes bs) else fault TooMany)
 unfolding countDue byteDue next
 count-there [] h = absurd (omega arith)
 count-there (b ∷ []) h = absurd (omega arith)
@@ -179,7 +178,7 @@ module _ (bs : List ℕ) (h : countBytes ≤ length bs) where
     few : sectionDue bs ≡ eventsDue (countAt bs) (drop countBytes bs)
     unfolding sectionDue
     few =
-        next-parsed
+        next-got
         eventsDue
         (countDue bs)
         (countAt bs)
