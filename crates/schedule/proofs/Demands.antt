@@ -4,48 +4,26 @@ use Prim.Native.Nat.{ℕ, zero, suc, _-_, _≤_, _<_}
 use native.Mathlib.Omega.{arith}
 use mathlib.Core.Path.{_≡_, refl, ap, subst⁻¹}
 use mathlib.Core.List.{List, [], _∷_}
-use mathlib.Core.Logic.{_⊎_, inl, inr, ⊎-elim}
 use lib.ListN.{length, getD, length-append}
 use Rattle.signer.specs.FromOne.{nth}
 use Rattle.signer.proofs.FromOneLaws.{within-low, nth-index}
 use Rattle.delivery.specs.Limits.{limits}
 use Rattle.bench.specs.Setups.{freshBench}
-use Rattle.bench.specs.Answers.{freshNumber}
 use Rattle.bench.specs.Runs.{after}
 use Rattle.bench.specs.Shows.{shown}
 use Rattle.bench.specs.declared.show.Shown.{Shown}
-use Rattle.bench.specs.declared.answer.FreshAnswer.{FreshAnswer}
-use Rattle.bench.specs.declared.answer.FreshAnswer.the-variants as fresh
-use Rattle.bench.proofs.AnswerLaws.{fresh-within, fresh-made}
 use Rattle.bench.proofs.SetupLaws.{board-made}
-use Rattle.schedule.specs.Files.{faultNumber, fileNumber, Reading, got, fault, File, fileDue, answerOf}
+use Rattle.schedule.specs.Files.{Reading, got, fault, File, fileDue, answerOf}
 use Rattle.schedule.specs.Layouts.{All, none, more, Holdable}
 use Rattle.schedule.specs.Readings.{scheduleFrom}
 use Rattle.schedule.specs.Prints.{linesTo, boardLine, boardLines, refusedLine, printedFrom}
-use Rattle.schedule.specs.Demands.{IsFileRow, Demand1, Demand2}
+use Rattle.schedule.specs.Demands.{Demand1, Demand2}
 use Rattle.schedule.specs.declared.answer.Fault.{Fault}
-use Rattle.schedule.specs.declared.answer.Fault.the-variants.{EndsEarly, NoBus, NoMark, TooMany, LeftOver}
-use Rattle.schedule.specs.declared.answer.FileAnswer.{FileAnswer}
-use Rattle.schedule.specs.declared.answer.FileAnswer.the-variants.{Taken, Refused}
+use Rattle.schedule.specs.declared.answer.FileAnswer.the-variants.{Refused}
+use Rattle.schedule.proofs.FaultLaws.{file-row}
 use Rattle.schedule.proofs.LayoutLaws.{file-laid, file-read}
 use Rattle.schedule.proofs.PrefixLaws.{enough-read}
-
--- the number of every fault is a row's; two are the bench's
-fresh-row : (a : FreshAnswer) → (a ≡ fresh.Made → ⊥) → IsFileRow (freshNumber a)
-fresh-row a h = ⊎-elim (λ z. absurd (h (fresh-made a z))) (λ r. (omega arith, omega arith)) (fresh-within a)
-
-fault-row : (w : Fault) → IsFileRow (faultNumber w)
-unfolding faultNumber
-fault-row EndsEarly = (omega arith, omega arith)
-fault-row NoBus = fresh-row fresh.NoBus (λ e. let z : _≡_ {A = ℕ} 0 1 = cc in omega arith)
-fault-row NoMark = fresh-row fresh.NoMark (λ e. let z : _≡_ {A = ℕ} 0 1 = cc in omega arith)
-fault-row TooMany = (omega arith, omega arith)
-fault-row LeftOver = (omega arith, omega arith)
-
-file-row : (a : FileAnswer) → (a ≡ Taken) ⊎ IsFileRow (fileNumber a)
-unfolding fileNumber
-file-row Taken = inl refl
-file-row (Refused w) = inr (fault-row w)
+use Rattle.schedule.proofs.PrintLaws.{board-length}
 
 -- some lines are some bytes, where each is
 lines-some : (n : ℕ) (f : ℕ → List ℕ) → 1 ≤ n → ((k : ℕ) → 0 < length (f k)) → 0 < length (linesTo n f)
@@ -54,8 +32,7 @@ lines-some zero f h some = absurd (omega arith)
 lines-some (suc n) f h some = simp length-append (omega (arith, some (suc n)))
 
 board-some : (k : ℕ) (s : Shown) → 0 < length (boardLine k s)
-unfolding boardLine
-board-some k s = simp length-append (omega arith)
+board-some k s = omega (arith, board-length k s)
 
 -- so there is always a report: a file that is taken has a board, and the line of one that is refused begins with a word
 print-some : (p : Reading File) → ((f : File) (rest : List ℕ) → p ≡ got f rest → Holdable limits f) → 0 < length (printedFrom limits p)

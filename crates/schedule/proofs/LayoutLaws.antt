@@ -287,7 +287,7 @@ section-read es rest h =
     ∙ each-read es rest
 
 -- and a whole file
-end-went : {A : Type 0} (x : A) (bs : List ℕ) (y : A) (rest : List ℕ) → nothingLeft x bs ≡ got y rest
+end-went : (x : File) (bs : List ℕ) (y : File) (rest : List ℕ) → nothingLeft x bs ≡ got y rest
     → (bs ≡ []) × (x ≡ y) × (rest ≡ [])
 unfolding nothingLeft
 end-went x [] y rest e = (refl, got-value x y [] rest e, sym (got-rest x y [] rest e))

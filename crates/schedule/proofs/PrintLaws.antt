@@ -13,18 +13,16 @@ use mathlib.Core.List.{List, [], _∷_, _++_}
 use lib.Dec.{leb, ltb}
 use lib.ListN.{length, set, length-append}
 use lib.Seq.{sets, length-sets}
-use Rattle.signer.specs.Choice.{if_then_else_}
 use Rattle.signer.proofs.ChoiceLaws.{if-elim, if-true, if-false}
 use Rattle.delivery.specs.Limits.{limits}
-use Rattle.bench.specs.Answers.{freshNumber}
 use Rattle.bench.specs.declared.show.Shown.{Shown}
 use Rattle.bench.proofs.RunLaws.{sets-written}
 use Rattle.schedule.specs.Files.{mostEvents, faultNumber}
 use Rattle.schedule.specs.Prints.{digit, decimalIn, decimal, linesTo, eventLine, boardLine, refusedLine, reportFrom, bufferFrom, PutAt, eventLineBytes, boardLineBytes, longestPrint}
 use Rattle.schedule.specs.declared.answer.Fault.{Fault}
-use Rattle.schedule.specs.declared.answer.Fault.the-variants.{EndsEarly, NoBus, NoMark, TooMany, LeftOver}
 use Rattle.schedule.specs.declared.report.Report.{Report}
 use Rattle.schedule.specs.declared.report.Report.the-variants.{Written, Short}
+use Rattle.schedule.proofs.FaultLaws.{fault-row}
 
 -- writing one text and then another is writing both as one
 sets-append : (xs ys buf : List ℕ) (at : ℕ) → sets (sets buf at xs) (at + length xs) ys ≡ sets buf at (xs ++ ys)
@@ -124,12 +122,8 @@ board-within k s h f g =
 
 -- a refused file's line is within the longest print
 pub refused-within : (f : Fault) → length (refusedLine f) ≤ longestPrint limits
-unfolding refusedLine faultNumber freshNumber decimal decimalIn if_then_else_
-refused-within EndsEarly = omega arith
-refused-within NoBus = omega arith
-refused-within NoMark = omega arith
-refused-within TooMany = omega arith
-refused-within LeftOver = omega arith
+unfolding refusedLine
+refused-within f = simp length-append (omega (arith, digits-within 0 (faultNumber f) (omega (arith, fault-row f .1))))
 
 -- before any line nothing is put, and after k lines one line more makes k + 1
 pub lines-none : {buf : List ℕ} {at : ℕ} (f : ℕ → List ℕ) → PutAt (linesTo 0 f) buf at buf at
