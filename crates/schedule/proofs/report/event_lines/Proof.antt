@@ -2,10 +2,10 @@
 -- most bytes. Assumes nothing.
 use Prim.Native.Nat.{ℕ, _+_, _-_, _*_, _≤_}
 use native.Mathlib.Omega.{arith}
-use native.Mathlib.Numerals.{add-one}
-use mathlib.Core.Path.{_≡_, ap}
+use mathlib.Core.Path.{_≡_, ap, _∙_}
 use lib.ListN.{length, getD}
 use Rattle.signer.specs.FromOne.{nth}
+use Rattle.signer.proofs.FromOneLaws.{nth-index}
 use Rattle.schedule.specs.Prints.{eventLine, eventLines, eventLineBytes, PutAt}
 use Rattle.schedule.proofs.PrintLaws.{put-length, event-within, lines-none, lines-next}
 use Rattle.schedule.proofs.report.event_lines.Statement.{statement}
@@ -45,12 +45,12 @@ loop-less : tie.Need-loop-less Inv-loop μ-loop
 loop-less c = omega arith
 
 loop-again : tie.Need-loop-again Inv-loop μ-loop
-unfolding nth
 loop-again c =
     let l = c .before .before .before .before .before .before in
     let k = l .loop .k in
     let answers = l .before .before .before .args .answers .now in
-    let e : nth answers (k + 1) 0 ≡ getD answers k 0 = ap (λ (j : ℕ). nth answers j 0) (add-one k) in (
+    let i : k + 1 - 1 ≡ k = omega arith in
+    let e : nth answers (k + 1) 0 ≡ getD answers k 0 = nth-index answers (k + 1) 0 (omega arith) ∙ ap (λ (j : ℕ). getD answers j 0) i in (
       omega arith,
       omega (arith, within (c .before .before .before)),
       lines-next (λ j. eventLine j (nth answers j 0)) k (l .loop .inv .2) (rw e (c .before .before .event-line .ensures)),
