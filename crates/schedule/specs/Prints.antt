@@ -90,11 +90,6 @@ reportFrom text room = if leb (length text) room then Written (length text) else
 unfoldable pub bufferFrom : List ℕ → List ℕ → List ℕ
 bufferFrom text buf = if leb (length text) (length buf) then written text buf else buf
 
--- A text stands in a buffer from a place on, as far as the buffer goes, and the place after the text is told.
-pub record PutAt (text buf : List ℕ) (at : ℕ) (buf′ : List ℕ) (after : ℕ) : Type 0 where
-  pub place : after ≡ at + length text
-  pub bytes : buf′ ≡ sets buf at text
-
 -- So much is printed at most: an event's line has four digits, a space, three digits and the line end, and a board's has
 -- one digit, its letter, three and five digits, three spaces and the line end.
 abbrev pub eventLineBytes : ℕ
@@ -105,3 +100,9 @@ boardLineBytes = 14
 
 abbrev pub longestPrint : Limits → ℕ
 longestPrint L = mostEvents * eventLineBytes + L .boards * boardLineBytes
+
+-- What the calls within that write a part of it promise: the text stands in the buffer from a place on, as far as the
+-- buffer goes, and the place after it is told.
+pub record PutAt (text buf : List ℕ) (at : ℕ) (buf′ : List ℕ) (after : ℕ) : Type 0 where
+  pub place : after ≡ at + length text
+  pub bytes : buf′ ≡ sets buf at text
