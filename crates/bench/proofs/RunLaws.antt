@@ -9,7 +9,7 @@ use mathlib.Core.Path.{_≡_, refl, sym, ap, _∙_}
 use mathlib.Core.List.{List, [], _∷_, _++_}
 use lib.Dec.{eqb, leb}
 use lib.ListN.{length, drop, set, length-append, length-drop, List·getD-append}
-use lib.Seq.{sets, sets-eq, drop-drop, drop-append-le}
+use lib.Seq.{sets, sets-eq, drop-drop}
 use Rattle.signer.specs.FromOne.{nth}
 use Rattle.signer.proofs.FromOneLaws.{nth-index}
 use Rattle.signer.proofs.ChoiceLaws.{if-true, if-elim}
@@ -42,16 +42,6 @@ event-append bs more h =
       List·getD-append bs more 0 4 (omega (arith, h)),
       List·getD-append bs more 0 5 (omega (arith, h)),
     )
-
-pub events-append : (k : ℕ) (bs more : List ℕ) → eventBytes * k ≤ length bs → eventsIn k (bs ++ more) ≡ eventsIn k bs
-unfolding eventsIn
-events-append zero bs more h = refl
-events-append (suc k) bs more h =
-    let one : eventBytes ≤ length bs = omega (arith, h) in
-    let rest : eventBytes * k ≤ length (drop eventBytes bs) = omega (arith, h, length-drop eventBytes bs) in
-    ap (λ (e : Event). e ∷ eventsIn k (drop eventBytes (bs ++ more))) (event-append bs more one)
-    ∙ ap (λ (cs : List ℕ). eventFrom bs ∷ eventsIn k cs) (drop-append-le eventBytes bs more one)
-    ∙ ap (λ (es : List Event). eventFrom bs ∷ es) (events-append k (drop eventBytes bs) more rest)
 
 -- no events, and one more
 pub events-none : (bs : List ℕ) → eventsIn 0 bs ≡ []
