@@ -2,7 +2,7 @@
 -- length.
 use Prim.Native.Nat.{ℕ, zero, suc, _-_, _≤_, _<_}
 use native.Mathlib.Omega.{arith}
-use mathlib.Core.Path.{_≡_, refl, ap, subst⁻¹}
+use mathlib.Core.Path.{_≡_, refl, subst⁻¹}
 use mathlib.Core.List.{List, [], _∷_}
 use lib.ListN.{length, getD, length-append}
 use Rattle.signer.specs.FromOne.{nth}
@@ -15,15 +15,13 @@ use Rattle.bench.specs.declared.show.Shown.{Shown}
 use Rattle.bench.proofs.SetupLaws.{board-made}
 use Rattle.schedule.specs.Files.{Reading, got, fault, File, fileDue, answerOf}
 use Rattle.schedule.specs.Layouts.{All, none, more, Holdable}
-use Rattle.schedule.specs.Readings.{scheduleFrom}
 use Rattle.schedule.specs.Prints.{linesTo, boardLine, boardLines, refusedLine, printedFrom}
 use Rattle.schedule.specs.Demands.{Demand1, Demand2}
-use Rattle.schedule.specs.declared.answer.Fault.{Fault}
-use Rattle.schedule.specs.declared.answer.FileAnswer.the-variants.{Refused}
 use Rattle.schedule.proofs.FaultLaws.{file-row}
 use Rattle.schedule.proofs.LayoutLaws.{file-laid, file-read}
 use Rattle.schedule.proofs.PrefixLaws.{enough-read}
 use Rattle.schedule.proofs.PrintLaws.{board-length}
+use Rattle.schedule.proofs.PlayLaws.{refused-print}
 
 -- some lines are some bytes, where each is
 lines-some : (n : ℕ) (f : ℕ → List ℕ) → 1 ≤ n → ((k : ℕ) → 0 < length (f k)) → 0 < length (linesTo n f)
@@ -43,13 +41,6 @@ print-some (got f rest) h =
     simp length-append (omega arith)
 print-some (fault w) h = omega arith
 
--- a file that is refused has nothing to play, and one line to print
-nothing-played : (p : Reading File) (w : Fault) → answerOf p ≡ Refused w
-    → (scheduleFrom limits p .count ≡ 0) × (printedFrom limits p ≡ refusedLine w)
-unfolding answerOf scheduleFrom printedFrom
-nothing-played (got f rest) w e = let z : _≡_ {A = ℕ} 0 1 = cc in absurd (omega arith)
-nothing-played (fault v) w e = let same : v ≡ w = cc in (refl, ap refusedLine same)
-
 -- what holds of all of a list holds of its k-th
 all-at : {A : Type 0} (P : A → Type 0) (xs : List A) (i : ℕ) (d : A) → All P xs → i < length xs → P (getD xs i d)
 all-at P [] i d none h = absurd (omega arith)
@@ -65,7 +56,7 @@ demand-1 =
     record {
       answered = λ bs. file-row (answerOf (fileDue limits bs));
       reported = λ bs. print-some (fileDue limits bs) (λ f rest e. file-laid limits bs f rest e .1);
-      refused = λ bs. nothing-played (fileDue limits bs);
+      refused = refused-print limits;
       made =
           λ bs f rest e.
           let h = file-laid limits bs f rest e .1 in

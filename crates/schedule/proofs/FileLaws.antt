@@ -23,6 +23,7 @@ use Rattle.schedule.specs.Files.{
   nothingLeft,
   File,
   fileDue,
+  answerOf,
 }
 use Rattle.schedule.specs.Layouts.{none, more, Bytes}
 use Rattle.schedule.specs.Readings.{padded, busFrom, busOf, sectionFrom, sectionOf}
@@ -31,7 +32,7 @@ use Rattle.schedule.specs.declared.answer.Fault.the-variants.{EndsEarly,
 use Rattle.schedule.specs.declared.answer.FileAnswer.the-variants.{Taken, Refused}
 use Rattle.schedule.specs.declared.bus.Bus.{Bus}
 use Rattle.schedule.specs.declared.section.Section.the-variants as section
-use Rattle.schedule.proofs.ReadingLaws.{next-got, next-fault}
+use Rattle.schedule.proofs.ReadingLaws.{answer-fault, next-got, next-fault}
 use Rattle.schedule.proofs.LayoutLaws.{bytes-rest, bus-laid, length-each, sectionLaid, section-laid}
 
 -- what a slice holds is bytes
@@ -84,12 +85,12 @@ bus-taken L bs b u e t = go (busDue L bs) refl (sym (ap (λ (x : Bus). x .answer
         }
 
 pub bus-refused : (L : Limits) (bs : List ℕ) (w : Fault) → busOf L bs .answer ≡ Refused w → busDue L bs ≡ fault w
-unfolding busFrom
-bus-refused L bs w t = go (busDue L bs) t
+unfolding busFrom answerOf
+bus-refused L bs w t = answer-fault (busDue L bs) w (sym (bus-answer (busDue L bs)) ∙ t)
   where
-    go : (p : Reading (List ℕ)) → busFrom L p .answer ≡ Refused w → p ≡ fault w
-    go (got ms cs) a = let z : _≡_ {A = ℕ} 0 1 = cc in absurd (omega arith)
-    go (fault v) a = let same : v ≡ w = cc in ap fault same
+    bus-answer : (p : Reading (List ℕ)) → busFrom L p .answer ≡ answerOf p
+    bus-answer (got ms cs) = refl
+    bus-answer (fault v) = refl
 
 -- the second, where it was read: its events, and what follows them
 pub record Sectioned (bs : List ℕ) (k : ℕ) : Type 0 where

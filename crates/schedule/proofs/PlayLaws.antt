@@ -16,14 +16,14 @@ use Rattle.bench.specs.declared.bench.Bench.{Bench}
 use Rattle.bench.specs.declared.event.Event.{Event}
 use Rattle.bench.proofs.SetupLaws.{fresh-alike}
 use Rattle.bench.proofs.RunLaws.{length-answers, played-bench, played-answers, nth-written}
-use Rattle.schedule.specs.Files.{Reading, got, fault, countBytes, mostEvents, eventsDue, File, fileDue}
+use Rattle.schedule.specs.Files.{Reading, got, fault, countBytes, mostEvents, eventsDue, File, fileDue, answerOf}
 use Rattle.schedule.specs.Layouts.{twoBytes, eventLaid, each, laid, Bytes, Holdable}
 use Rattle.schedule.specs.Readings.{padded, scheduleFrom, scheduleOf}
 use Rattle.schedule.specs.Prints.{eventLine, eventLines, boardLines, refusedLine, printedFrom, printed}
 use Rattle.schedule.specs.declared.answer.Fault.{Fault}
 use Rattle.schedule.specs.declared.answer.FileAnswer.the-variants.{Taken, Refused}
 use Rattle.schedule.specs.declared.file.Schedule.{Schedule}
-use Rattle.schedule.proofs.ReadingLaws.{got-value}
+use Rattle.schedule.proofs.ReadingLaws.{got-value, answer-fault}
 use Rattle.schedule.proofs.LayoutLaws.{length-each, each-read, file-laid}
 use Rattle.schedule.proofs.SectionLaws.{events-there}
 use Rattle.schedule.proofs.PrintLaws.{lines-same}
@@ -78,14 +78,21 @@ file-taken L bs s u e t = go (fileDue L bs) refl (sym (ap (λ (x : Schedule). x 
         let l = file-laid L bs f cs g in
         record { file = f; rest = cs; due = g; read = e ∙ ap (scheduleFrom L) g; holds = l .1; whole = l .0 u }
 
--- or it was refused, and then prints a line
-pub file-refused : (L : Limits) (bs : List ℕ) (w : Fault) → scheduleOf L bs .answer ≡ Refused w → printed L bs ≡ refusedLine w
+-- or it was refused, and then has nothing to play, and prints a line
+pub refused-print : (L : Limits) (bs : List ℕ) (w : Fault) → answerOf (fileDue L bs) ≡ Refused w
+    → (scheduleOf L bs .count ≡ 0) × (printed L bs ≡ refusedLine w)
 unfolding scheduleFrom printedFrom
-file-refused L bs w t = go (fileDue L bs) t
+refused-print L bs w t =
+    let met = answer-fault (fileDue L bs) w t in
+    (ap (λ (p : Reading File). scheduleFrom L p .count) met, ap (printedFrom L) met)
+
+pub file-refused : (L : Limits) (bs : List ℕ) (w : Fault) → scheduleOf L bs .answer ≡ Refused w → printed L bs ≡ refusedLine w
+unfolding scheduleFrom answerOf
+file-refused L bs w t = refused-print L bs w (sym (file-answer (fileDue L bs)) ∙ t) .1
   where
-    go : (p : Reading File) → scheduleFrom L p .answer ≡ Refused w → printedFrom L p ≡ refusedLine w
-    go (got f cs) a = let z : _≡_ {A = ℕ} 0 1 = cc in absurd (omega arith)
-    go (fault v) a = let same : v ≡ w = cc in ap refusedLine same
+    file-answer : (p : Reading File) → scheduleFrom L p .answer ≡ answerOf p
+    file-answer (got f cs) = refl
+    file-answer (fault v) = refl
 
 -- A file that was read: n, the marks and the count are its own, and within what there can be.
 module _ (L : Limits) (bs : List ℕ) (s : Schedule) (h : Filed L bs s) where

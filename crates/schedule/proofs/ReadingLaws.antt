@@ -10,9 +10,10 @@ use lib.ListN.{length}
 use Rattle.signer.specs.Choice.{if_then_else_}
 use Rattle.signer.proofs.ChoiceLaws.{if-true, if-false}
 use Rattle.delivery.proofs.TestLaws.{decided}
-use Rattle.schedule.specs.Files.{Reading, got, fault, next, byteDue, manyDue}
+use Rattle.schedule.specs.Files.{Reading, got, fault, next, byteDue, manyDue, answerOf}
 use Rattle.schedule.specs.declared.answer.Fault.{Fault}
 use Rattle.schedule.specs.declared.answer.Fault.the-variants.{EndsEarly}
+use Rattle.schedule.specs.declared.answer.FileAnswer.the-variants.{Refused}
 
 -- something that was read is no fault, and two that are equal have equal parts
 pub got-no-fault : {A : Type 0} (x : A) (bs : List ℕ) (w : Fault) → got x bs ≡ fault w → ⊥
@@ -42,6 +43,12 @@ fault-value {A} w v e = ap value e
     value : Reading A → Fault
     value (got z ds) = w
     value (fault u) = u
+
+-- what was refused met that fault
+pub answer-fault : {A : Type 0} (p : Reading A) (w : Fault) → answerOf p ≡ Refused w → p ≡ fault w
+unfolding answerOf
+answer-fault (got x bs) w e = let z : _≡_ {A = ℕ} 0 1 = cc in absurd (omega arith)
+answer-fault (fault v) w e = let same : v ≡ w = cc in ap fault same
 
 module _ {A B : Type 0} (f : A → List ℕ → Reading B) where
   -- to read on after something is what is read there, and after a fault is the fault

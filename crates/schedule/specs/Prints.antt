@@ -18,8 +18,8 @@ use Rattle.schedule.specs.declared.answer.Fault.{Fault}
 use Rattle.schedule.specs.declared.report.Report.{Report}
 use Rattle.schedule.specs.declared.report.Report.the-variants.{Written, Short}
 
--- A number in decimal, with no zero in front: the digits before its last are the decimal of its tenth part. They are
--- fewer than the number itself, or one.
+-- A number in decimal, with no zero in front: below ten it is one digit, and from there on the decimal of its tenth part
+-- and its last digit. It is written in at most so many digits, and no number has more than it counts, and one.
 abbrev pub digit : ℕ → ℕ
 digit d = 48 + d
 
