@@ -1,16 +1,17 @@
 -- Laws of a bench's boards and signers, each read back after a change. Assumes nothing.
 use Prim.Native.Nat.{ℕ}
-use mathlib.Core.Path.{_≡_}
+use mathlib.Core.Path.{_≡_, refl}
 use mathlib.Core.Bool.{true}
 use lib.ListN.{length}
 use native.Mathlib.Omega.{arith}
 use Rattle.signer.proofs.FromOneLaws.{within-low, within-high, nth-set-same, nth-set-other, nth-replicate}
+use Rattle.signer.specs.Log.{entryAt}
 use Rattle.signer.specs.Signer.{freshSigner, sign}
 use Rattle.delivery.specs.Limits.{Limits}
 use Rattle.delivery.specs.Bus.{isBoard}
 use Rattle.vote.specs.Boards.{freshBoard}
 use Rattle.vote.specs.declared.board.Board.{Board}
-use Rattle.bench.specs.Benches.{boardAt, signerAt}
+use Rattle.bench.specs.Benches.{boardAt, signerAt, signedBy}
 use Rattle.bench.specs.Effects.{withBoardAt, withSignature}
 use Rattle.bench.specs.Setups.{benchOf}
 use Rattle.bench.specs.declared.bench.Bench.{Bench}
@@ -51,6 +52,11 @@ module _ (L : Limits) (c : Bench) where
   pub signer-other : (j k i v : ℕ) → (j ≡ k → ⊥) → signerAt L (withSignature L c k i v) j ≡ signerAt L c j
   unfolding signerAt withSignature
   signer-other j k i v h = nth-set-other (c .signers) j k _ (freshSigner (L .identifiers)) h
+
+-- what was signed is what the signer's log has
+pub signed-log : (L : Limits) (c : Bench) (s i : ℕ) → signedBy L c s i ≡ entryAt (signerAt L c s .log) i
+unfolding signedBy
+signed-log L c s i = refl
 
 -- on a bench on which nothing has happened, every board and every signer is a fresh one
 pub board-fresh : (L : Limits) (n sound k : ℕ) → boardAt L (benchOf L n sound) k ≡ freshBoard L

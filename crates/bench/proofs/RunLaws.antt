@@ -65,7 +65,7 @@ length-answers L c [] = refl
 length-answers L c (e ∷ es) = ap suc (length-answers L (stepOf L c e .bench) es)
 
 -- of the events that are left after k of n, the first is at the head of the bytes that are left
-events-next : (n k at : ℕ) (bs : List ℕ) → k < n
+pub events-next : (n k at : ℕ) (bs : List ℕ) → k < n
     → eventsIn (n - k) (drop at bs) ≡ eventFrom (drop at bs) ∷ eventsIn (n - (k + 1)) (drop (at + eventBytes) bs)
 unfolding eventsIn
 events-next n k at bs h =

@@ -24,6 +24,11 @@ pub record Whole (L : Limits) (d : Delivered) : Type 0 where
   pub size : length (d .logs) ≡ L .boards
   pub each : (s : ℕ) → WholeLog (L .identifiers) (logOf L d s)
 
+-- what is heard of a speaker is what its log has
+pub heard-log : (L : Limits) (d : Delivered) (s i : ℕ) → heard L d s i ≡ entryAt (logOf L d s) i
+unfolding heard
+heard-log L d s i = refl
+
 -- where nothing is delivered
 log-nothing : (L : Limits) (s : ℕ) → logOf L (nothingDelivered L) s ≡ emptyLog (L .identifiers)
 unfolding nothingDelivered logOf

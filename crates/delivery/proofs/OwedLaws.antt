@@ -1,14 +1,14 @@
 -- Laws of the copies that are owed. Assumes nothing.
-use Prim.Native.Nat.{ℕ}
-use mathlib.Core.Path.{_≡_, ap, sym, _∙_}
+use Prim.Native.Nat.{ℕ, _+_}
+use mathlib.Core.Path.{_≡_, refl, ap, sym, _∙_}
 use mathlib.Core.List.{List}
 use mathlib.Core.Bool.{Bool, true, false}
 use mathlib.Core.Logic.{_⊎_, ⊎-elim}
 use native.Mathlib.Omega.{arith}
 use lib.Dec.{eqb}
-use lib.ListN.{length, length-replicate}
+use lib.ListN.{length, getD, length-replicate}
 use Rattle.signer.specs.Log.{isIdentifier}
-use Rattle.signer.proofs.FromOneLaws.{setNth-none, length-setNth, nth-set-same, nth-set-other, nth-change, set-back, nth-replicate, within-low, within-high, within-out}
+use Rattle.signer.proofs.FromOneLaws.{nth-after, setNth-none, length-setNth, nth-set-same, nth-set-other, nth-change, set-back, nth-replicate, within-low, within-high, within-out}
 use Rattle.delivery.specs.Tests.{_and_, _or_, neg}
 use Rattle.delivery.specs.Limits.{Limits}
 use Rattle.delivery.specs.Bus.{isBoard}
@@ -35,6 +35,15 @@ use Rattle.delivery.proofs.SetLaws.{set-cong, in-setOf-within, in-witho
 pub record Complete (L : Limits) (o : Owed) : Type 0 where
   pub size : length (o .speakers) ≡ L .boards
   pub each : (s : ℕ) → length (copiesOf L o s .receivers) ≡ L .identifiers
+
+-- what is owed of a speaker's statements, and where that stands
+pub receivers-copies : (L : Limits) (o : Owed) (s i : ℕ) → receivers L o s i ≡ receiversAt (copiesOf L o s) i
+unfolding receivers
+receivers-copies L o s i = refl
+
+pub receivers-after : (c : Copies) (i : ℕ) → receiversAt c (i + 1) ≡ getD (c .receivers) i 0
+unfolding receiversAt
+receivers-after c i = nth-after (c .receivers) i 0
 
 -- where nothing is owed
 copies-nothing : (L : Limits) (s : ℕ) → copiesOf L (nothingOwed L) s ≡ noCopies L

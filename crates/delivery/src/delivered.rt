@@ -32,7 +32,7 @@ impl Delivered {
     }
 
     // What a speaker said; a number that is no board's said nothing.
-    fn log(self, speaker: u8) -> Log
+    pub fn log(self, speaker: u8) -> Log
         ensures { λ r. ⌜ r ≡ logOf limits self speaker ⌝ }
     {
         if !Delivered::is_board(speaker) {

@@ -69,7 +69,7 @@ impl Owed {
     }
 
     // The copies of one speaker's statements; none where the number is no board's.
-    fn copies(self, speaker: u8) -> Copies
+    pub fn copies(self, speaker: u8) -> Copies
         ensures { λ r. ⌜ r ≡ copiesOf limits self speaker ⌝ }
     {
         if !Delivered::is_board(speaker) {

@@ -86,13 +86,17 @@ refused-print L bs w t =
     let met = answer-fault (fileDue L bs) w t in
     (ap (λ (p : Reading File). scheduleFrom L p .count) met, ap (printedFrom L) met)
 
-pub file-refused : (L : Limits) (bs : List ℕ) (w : Fault) → scheduleOf L bs .answer ≡ Refused w → printed L bs ≡ refusedLine w
+pub file-fault : (L : Limits) (bs : List ℕ) (w : Fault) → scheduleOf L bs .answer ≡ Refused w → fileDue L bs ≡ fault w
 unfolding scheduleFrom answerOf
-file-refused L bs w t = refused-print L bs w (sym (file-answer (fileDue L bs)) ∙ t) .1
+file-fault L bs w t = answer-fault (fileDue L bs) w (sym (file-answer (fileDue L bs)) ∙ t)
   where
     file-answer : (p : Reading File) → scheduleFrom L p .answer ≡ answerOf p
     file-answer (got f cs) = refl
     file-answer (fault v) = refl
+
+pub file-refused : (L : Limits) (bs : List ℕ) (w : Fault) → scheduleOf L bs .answer ≡ Refused w → printed L bs ≡ refusedLine w
+unfolding printedFrom
+file-refused L bs w t = ap (printedFrom L) (file-fault L bs w t)
 
 -- A file that was read: n, the marks and the count are its own, and within what there can be.
 module _ (L : Limits) (bs : List ℕ) (s : Schedule) (h : Filed L bs s) where
@@ -136,6 +140,16 @@ module _ (L : Limits) (bs : List ℕ) (s : Schedule) (h : Filed L bs s) where
       ∙ ap (drop (length front)) (h .whole)
       ∙ drop-append-seam front (each eventLaid (h .file .events))
 
+  -- all of them
+  pub events-fit : eventBytes * s .count ≤ length (drop (s .start) bs)
+  events-fit = omega (arith, count-read, ap length events-part, length-each (h .file .events))
+
+  pub events-read : eventsIn (s .count) (drop (s .start) bs) ≡ h .file .events
+  events-read =
+      ap (λ (m : ℕ). eventsIn m (drop (s .start) bs)) count-read
+      ∙ ap (eventsIn (length (h .file .events))) events-part
+      ∙ events-laid (h .file .events)
+
   -- and the player is handed them, and no byte more
   abbrev handed : List ℕ
   handed = take (eventBytes * s .count) (drop (s .start) bs)
@@ -154,7 +168,7 @@ module _ (L : Limits) (bs : List ℕ) (s : Schedule) (h : Filed L bs s) where
   handed-events = ap (eventsIn (length (h .file .events))) handed-all ∙ events-laid (h .file .events)
 
   -- so the bench begins as the file's, and each event of it is played
-  begun : freshBench L (s .n) (s .marks) ≡ freshBench L (length (h .file .marks)) (h .file .marks)
+  pub begun : freshBench L (s .n) (s .marks) ≡ freshBench L (length (h .file .marks)) (h .file .marks)
   begun =
       ap (λ (m : ℕ). freshBench L m (s .marks)) n-read
       ∙ ap (freshBench L (length (h .file .marks))) marks-read

@@ -143,6 +143,16 @@ lines-same (suc n) f g e =
     ap (λ (xs : List ℕ). xs ++ f (suc n)) (lines-same n f g (λ k l h. e k l (omega arith)))
     ∙ ap (λ (xs : List ℕ). linesTo n g ++ xs) (e (suc n) (omega arith) (omega arith))
 
+-- where the buffer is too short, it stays; where it is not, the text is written at its start
+pub buffer-short : (text buf : List ℕ) → length buf < length text → buf ≡ bufferFrom text buf
+unfolding bufferFrom
+buffer-short text buf h = sym (if-false _ _ _ (lt-leb (length text) (length buf) h))
+
+pub buffer-written : {text buf buf′ : List ℕ} {r : ℕ} → length text ≤ length buf → PutAt text buf 0 buf′ r → buf′ ≡ bufferFrom text buf
+unfolding bufferFrom
+buffer-written {text} {buf} h p =
+    p .bytes ∙ sets-written text buf h ∙ sym (if-true _ _ _ (le-leb (length text) (length buf) h))
+
 -- A report puts its text into an empty part of the buffer first, to tell its length.
 module _ (buf : List ℕ) {text none : List ℕ} {r : ℕ} (p : PutAt text [] 0 none r) where
   -- that tells the length
@@ -153,27 +163,42 @@ module _ (buf : List ℕ) {text none : List ℕ} {r : ℕ} (p : PutAt text [] 0 
   still : none ++ buf ≡ buf
   still = ap (λ (b : List ℕ). b ++ buf) (p .bytes ∙ sets-nowhere text 0)
 
-  -- where the buffer is too short, it stays
   pub report-short : length (none ++ buf) < r
       → (Short r ≡ reportFrom text (length buf)) × (none ++ buf ≡ bufferFrom text buf)
-  unfolding reportFrom bufferFrom
+  unfolding reportFrom
   report-short h =
-      let t : leb (length text) (length buf) ≡ false = lt-leb (length text) (length buf) (omega (arith, text-length, ap length still)) in
-      (ap Short text-length ∙ sym (if-false _ _ _ t), still ∙ sym (if-false _ _ _ t))
+      let few : length buf < length text = omega (arith, text-length, ap length still) in
+      (ap Short text-length ∙ sym (if-false _ _ _ (lt-leb (length text) (length buf) few)), still ∙ buffer-short text buf few)
 
-  -- and where it is not, the text is written at its start
   pub report-written : {buf′ : List ℕ} {r′ : ℕ} → r ≤ length (none ++ buf) → PutAt text (none ++ buf) 0 buf′ r′
       → (Written r ≡ reportFrom text (length buf)) × (buf′ ≡ bufferFrom text buf)
-  unfolding reportFrom bufferFrom
+  unfolding reportFrom
   report-written h q =
       let fits : length text ≤ length buf = omega (arith, text-length, ap length still) in
-      let t : leb (length text) (length buf) ≡ true = le-leb (length text) (length buf) fits in (
-        ap Written text-length ∙ sym (if-true _ _ _ t),
-        q .bytes
-            ∙ ap (λ (b : List ℕ). sets b 0 text) still
-            ∙ sets-written text buf fits
-            ∙ sym (if-true _ _ _ t),
-      )
+      (ap Written text-length ∙ sym (if-true _ _ _ (le-leb (length text) (length buf) fits)), buffer-written fits (rw still at q))
+
+-- either way a report tells the length
+pub told-written : (text : List ℕ) (room r : ℕ) → Written r ≡ reportFrom text room → r ≡ length text
+unfolding reportFrom
+told-written text room r =
+    if-elim
+    (λ (x : Report). Written r ≡ x → r ≡ length text)
+    (leb (length text) room)
+    _
+    _
+    (λ t e. cc)
+    (λ f e. let z : _≡_ {A = ℕ} 0 1 = cc in absurd (omega arith))
+
+pub told-short : (text : List ℕ) (room r : ℕ) → Short r ≡ reportFrom text room → r ≡ length text
+unfolding reportFrom
+told-short text room r =
+    if-elim
+    (λ (x : Report). Short r ≡ x → r ≡ length text)
+    (leb (length text) room)
+    _
+    _
+    (λ t e. let z : _≡_ {A = ℕ} 0 1 = cc in absurd (omega arith))
+    (λ f e. cc)
 
 -- what was written is no more than there is room for
 pub written-within : (text : List ℕ) (room r : ℕ) → Written r ≡ reportFrom text room → r ≤ room

@@ -1,11 +1,12 @@
 -- Laws of numbers from 1, and of lists numbered so. Assumes nothing.
-use Prim.Native.Nat.{ℕ, zero, suc, _-_, _≤_, _<_}
+use Prim.Native.Nat.{ℕ, zero, suc, _+_, _-_, _≤_, _<_}
 use mathlib.Core.Path.{_≡_, refl, sym, ap, _∙_}
 use mathlib.Core.Bool.{true, false}
 use borrow.Author.Tests.{le-leb, leb-true, leb-false}
 use lib.Dec.{leb}
 use mathlib.Core.List.{List, [], _∷_}
 use mathlib.Core.Logic.{_⊎_, inl, inr}
+use native.Mathlib.Numerals.{add-one}
 use native.Mathlib.Omega.{arith}
 use native.Mathlib.Nat.{not-suc-le-zero, le-of-suc-le-suc}
 use native.Mathlib.Decide.{ℕ-discrete, decLt}
@@ -54,6 +55,10 @@ module _ {A : Type 0} (xs : List A) where
   pub nth-index : (k : ℕ) (d : A) → 1 ≤ k → nth xs k d ≡ getD xs (k - 1) d
   unfolding nth
   nth-index k d h = ap (λ (j : ℕ). nth xs j d) (from-one k h)
+
+  pub nth-after : (k : ℕ) (d : A) → nth xs (k + 1) d ≡ getD xs k d
+  unfolding nth
+  nth-after k d = ap (λ (j : ℕ). nth xs j d) (add-one k)
 
   pub setNth-index : (k : ℕ) (a : A) → 1 ≤ k → setNth xs k a ≡ set xs (k - 1) a
   unfolding setNth

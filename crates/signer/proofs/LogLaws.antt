@@ -1,5 +1,5 @@
 -- Laws of logs. Assumes nothing.
-use Prim.Native.Nat.{ℕ, zero, suc, _-_, _≤_, _<_}
+use Prim.Native.Nat.{ℕ, _+_, zero, suc, _-_, _≤_, _<_}
 use mathlib.Core.Path.{_≡_, refl, ap, subst⁻¹, _∙_}
 use mathlib.Core.List.{List}
 use mathlib.Core.Logic.{_⊎_}
@@ -12,7 +12,7 @@ use lib.ListN.{length, getD, set, length-replicate}
 use Rattle.signer.specs.Log.{values, valueOf, entryOf, isIdentifier, emptyLog, entryAt, withEntry}
 use Rattle.signer.specs.declared.log.Log.{Log}
 use Rattle.signer.proofs.ChoiceLaws.{if-true, if-false, if-elim}
-use Rattle.signer.proofs.FromOneLaws.{within-low, within-high, within-out, nth-index, setNth-index, nth-none, setNth-none, length-setNth, nth-set-same, nth-set-other, nth-replicate, nth-change}
+use Rattle.signer.proofs.FromOneLaws.{within-low, within-high, within-out, nth-index, nth-after, setNth-index, nth-none, setNth-none, length-setNth, nth-set-same, nth-set-other, nth-replicate, nth-change}
 
 -- an entry's value, where it stands for one, and where it stands for none
 pub value-entry : (v : ℕ) → v ≤ values → valueOf (entryOf v) ≡ v
@@ -109,6 +109,10 @@ with-outside limit l i e w h =
 pub entry-index : (limit : ℕ) (l : Log) (i : ℕ) → isIdentifier limit i ≡ true → entryAt l i ≡ getD (l .entries) (i - 1) 0
 unfolding entryAt
 entry-index limit l i h = nth-index (l .entries) i 0 (within-low limit i h)
+
+pub entry-after : (l : Log) (i : ℕ) → entryAt l (i + 1) ≡ getD (l .entries) i 0
+unfolding entryAt
+entry-after l i = nth-after (l .entries) i 0
 
 pub with-index : (limit : ℕ) (l : Log) (i e : ℕ) → isIdentifier limit i ≡ true
     → withEntry l i e ≡ record { entries = set (l .entries) (i - 1) e }

@@ -1,0 +1,246 @@
+ghost use Prim.Native.Nat.{_+_, _*_, _≤_};
+ghost use mathlib.Core.Path.{_≡_};
+ghost use mathlib.Core.List.{[], _∷_};
+ghost use lib.ListN.{length};
+ghost use Rattle.signer.specs.Log.{entryAt};
+ghost use Rattle.delivery.specs.Limits.{limits};
+ghost use Rattle.delivery.specs.Delivered.{heard};
+ghost use Rattle.delivery.specs.Owed.{receiversAt, receivers};
+ghost use Rattle.bench.specs.Benches.{boardAt, signerAt, signedBy, heardBy};
+ghost use Rattle.schedule.specs.Prints.{linesTo, PutAt};
+ghost use Rattle.fenderacai.specs.Rows.{statusNumber, stageNumber, decision, statusWords, positionWords, boardWords, wordsTo, tableWords, tableSize, row, rowSize};
+use bench::Bench;
+use delivery::Copies;
+use delivery::Delivered;
+use delivery::Owed;
+use delivery::Round;
+use signer::Identifier;
+use signer::Log;
+use vote::Board;
+use vote::Decision;
+use vote::Position;
+use vote::Stage;
+use vote::Status;
+
+// The words at the front of a row, and those of a board.
+const FRONT: usize = 3;
+
+const BOARD: usize = 8;
+
+// The boards that there can be, the words of a table, and those of a row.
+const BOARDS: usize = Bench::BOARDS as usize;
+
+const TABLE: usize = BOARDS * Identifier::LAST as usize;
+
+pub(crate) const WORDS: usize = FRONT + BOARDS * BOARD + TABLE + BOARDS * TABLE + TABLE;
+
+fn status_number(status: Status) -> u32
+    ensures { λ r. ⌜ r ≡ statusNumber status ⌝ }
+{
+    match status {
+        Status::Idle => 0,
+        Status::Voting => 1,
+        Status::Spent => 2,
+        Status::Decided(_) => 3,
+    }
+}
+
+fn stage_number(stage: Stage) -> u32
+    ensures { λ r. ⌜ r ≡ stageNumber stage ⌝ }
+{
+    match stage {
+        Stage::Open => 0,
+        Stage::Vote => 1,
+        Stage::Count => 2,
+    }
+}
+
+// What a board decided; 0 in round 0 if it has not.
+fn decision(status: Status) -> Decision
+    ensures { λ r. ⌜ r ≡ decision status ⌝ }
+{
+    match status {
+        Status::Decided(d) => d,
+        Status::Idle | Status::Voting | Status::Spent => Decision {
+            round: Round(0),
+            value: 0,
+        },
+    }
+}
+
+fn wide(set: u16) -> u32
+    ensures { λ r. ⌜ r ≡ set ⌝ }
+{
+    set as u32
+}
+
+// Each of these puts some words into a buffer from a place on, and answers with the place after them.
+
+// One word.
+fn word(out: &mut [u32], at: usize, word: u32) -> usize
+    requires { ⌜ at + 1 ≤ length (now out) ⌝ }
+    ensures { λ r. ⌜ PutAt (word ∷ []) (now (out .entry)) at (now (out .exit)) r ⌝ }
+{
+    out[at] = word;
+    at + 1
+}
+
+// The answer, n and the sound boards.
+fn front(out: &mut [u32], at: usize, answer: u8, n: u8, sound: u16) -> usize
+    requires { ⌜ at + 3 ≤ length (now out) ⌝ }
+    ensures { λ r. ⌜ PutAt (answer ∷ n ∷ sound ∷ []) (now (out .entry)) at (now (out .exit)) r ⌝ }
+{
+    let mut next = word(out, at, answer as u32);
+    next = word(out, next, n as u32);
+    word(out, next, sound as u32)
+}
+
+// A status, and what was decided.
+fn status(out: &mut [u32], at: usize, status: Status) -> usize
+    requires { ⌜ at + 3 ≤ length (now out) ⌝ }
+    ensures { λ r. ⌜ PutAt (statusWords status) (now (out .entry)) at (now (out .exit)) r ⌝ }
+{
+    let decided = decision(status);
+    let mut next = word(out, at, status_number(status));
+    next = word(out, next, decided.round.0 as u32);
+    word(out, next, decided.value as u32)
+}
+
+// Where a board stands in the vote.
+fn position(out: &mut [u32], at: usize, position: Position) -> usize
+    requires { ⌜ at + 4 ≤ length (now out) ⌝ }
+    ensures { λ r. ⌜ PutAt (positionWords position) (now (out .entry)) at (now (out .exit)) r ⌝ }
+{
+    let stage = position.stage;
+    let mut next = word(out, at, position.round.0 as u32);
+    next = word(out, next, position.estimate as u32);
+    next = word(out, next, stage_number(stage));
+    word(out, next, position.suspected as u32)
+}
+
+// A board, and the highest identifier that its signer signed.
+fn board(out: &mut [u32], at: usize, board: Board, last: Identifier) -> usize
+    requires { ⌜ at + 8 ≤ length (now out) ⌝ }
+    ensures { λ r. ⌜ PutAt (boardWords board (last .0)) (now (out .entry)) at (now (out .exit)) r ⌝ }
+{
+    let far = board.status;
+    let place = board.position;
+    let mut next = status(out, at, far);
+    next = position(out, next, place);
+    word(out, next, last.0 as u32)
+}
+
+// Every board.
+fn boards(out: &mut [u32], at: usize, bench: Bench) -> usize
+    requires { ⌜ at + limits .boards * 8 ≤ length (now out) ⌝ }
+    ensures { λ r. ⌜ PutAt (linesTo (limits .boards) (λ k. boardWords (boardAt limits bench k) (signerAt limits bench k .last .0))) (now (out .entry)) at (now (out .exit)) r ⌝ }
+{
+    let mut next = at;
+    let mut k = 0u8;
+    while k < Bench::BOARDS {
+        let signer = bench.signer(k + 1);
+        next = board(out, next, bench.board(k + 1), signer.last);
+        k += 1;
+    }
+    next
+}
+
+// A log's entries.
+fn log(out: &mut [u32], at: usize, log: Log) -> usize
+    requires { ⌜ at + limits .identifiers ≤ length (now out) ⌝ }
+    ensures { λ r. ⌜ PutAt (wordsTo (limits .identifiers) (entryAt log)) (now (out .entry)) at (now (out .exit)) r ⌝ }
+{
+    let entries = log.entries;
+    let mut next = at;
+    let mut i = 0usize;
+    while i < Identifier::LAST as usize {
+        next = word(out, next, entries[i]);
+        i += 1;
+    }
+    next
+}
+
+// What each board's signer signed.
+fn signed(out: &mut [u32], at: usize, bench: Bench) -> usize
+    requires { ⌜ at + tableSize limits ≤ length (now out) ⌝ }
+    ensures { λ r. ⌜ PutAt (tableWords limits (signedBy limits bench)) (now (out .entry)) at (now (out .exit)) r ⌝ }
+{
+    let mut next = at;
+    let mut k = 0u8;
+    while k < Bench::BOARDS {
+        let signer = bench.signer(k + 1);
+        next = log(out, next, signer.log);
+        k += 1;
+    }
+    next
+}
+
+// What one board delivered.
+fn store(out: &mut [u32], at: usize, store: Delivered) -> usize
+    requires { ⌜ at + tableSize limits ≤ length (now out) ⌝ }
+    ensures { λ r. ⌜ PutAt (tableWords limits (heard limits store)) (now (out .entry)) at (now (out .exit)) r ⌝ }
+{
+    let mut next = at;
+    let mut k = 0u8;
+    while k < Bench::BOARDS {
+        next = log(out, next, store.log(k + 1));
+        k += 1;
+    }
+    next
+}
+
+// What each board delivered.
+fn delivered(out: &mut [u32], at: usize, bench: Bench) -> usize
+    requires { ⌜ at + limits .boards * tableSize limits ≤ length (now out) ⌝ }
+    ensures { λ r. ⌜ PutAt (linesTo (limits .boards) (λ k. tableWords limits (heardBy limits bench k))) (now (out .entry)) at (now (out .exit)) r ⌝ }
+{
+    let mut next = at;
+    let mut k = 0u8;
+    while k < Bench::BOARDS {
+        let board = bench.board(k + 1);
+        next = store(out, next, board.delivered);
+        k += 1;
+    }
+    next
+}
+
+// The receivers of copies of one speaker's statements.
+fn copies(out: &mut [u32], at: usize, copies: Copies) -> usize
+    requires { ⌜ at + limits .identifiers ≤ length (now out) ⌝ }
+    ensures { λ r. ⌜ PutAt (wordsTo (limits .identifiers) (receiversAt copies)) (now (out .entry)) at (now (out .exit)) r ⌝ }
+{
+    let receivers = copies.receivers;
+    let mut next = at;
+    let mut i = 0usize;
+    while i < Identifier::LAST as usize {
+        next = word(out, next, wide(receivers[i]));
+        i += 1;
+    }
+    next
+}
+
+// The copies that are owed.
+fn owed(out: &mut [u32], at: usize, owed: Owed) -> usize
+    requires { ⌜ at + tableSize limits ≤ length (now out) ⌝ }
+    ensures { λ r. ⌜ PutAt (tableWords limits (receivers limits owed)) (now (out .entry)) at (now (out .exit)) r ⌝ }
+{
+    let mut next = at;
+    let mut k = 0u8;
+    while k < Bench::BOARDS {
+        next = copies(out, next, owed.copies(k + 1));
+        k += 1;
+    }
+    next
+}
+
+// A row.
+pub(crate) fn put(out: &mut [u32], at: usize, answer: u8, bench: Bench) -> usize
+    requires { ⌜ at + rowSize limits ≤ length (now out) ⌝ }
+    ensures { λ r. ⌜ PutAt (row limits answer bench) (now (out .entry)) at (now (out .exit)) r ⌝ }
+{
+    let mut next = front(out, at, answer, bench.n, bench.sound);
+    next = boards(out, next, bench);
+    next = signed(out, next, bench);
+    next = delivered(out, next, bench);
+    owed(out, next, bench.owed)
+}
