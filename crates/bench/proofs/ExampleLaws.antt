@@ -8,7 +8,7 @@ use Rattle.delivery.specs.Tests.{_and_, _or_, neg}
 use Rattle.delivery.specs.Counting.{plus, countIn, everyIn, countOf, everyOf, someOf}
 use Rattle.delivery.specs.Rounds.{nextRound, coordinator, phaseOf, identifierOf}
 use Rattle.delivery.specs.Sets.{inSet, setOf, withBoard}
-use Rattle.delivery.specs.Delivered.{nothingDelivered, logOf, heard, deliver}
+use Rattle.delivery.specs.Delivered.{placeOf, heardIn, nothingDelivered, deliver}
 use Rattle.delivery.specs.Owed.{noCopies, receiversAt, withReceiversAt, nothingOwed, copiesOf, withCopies, receivers, withReceivers, lacks, afterSigning, afterDelivery}
 use Rattle.delivery.specs.Acceptance.{says, bears, opens, counts, countsSome, divided, allowedAfter, allowed, acceptsOpening, acceptsBallot, acceptsSome}
 use Rattle.vote.specs.Boards.{freshPosition, freshBoard, isStarted, isDecided, isEnded, hasDecided, withStatus, startingWith, propose, hears, deliverTo, suspect}
@@ -27,7 +27,7 @@ use Rattle.bench.specs.Shows.{standing, shown}
 use Rattle.bench.specs.Examples.{Examples}
 
 pub examples : Examples
-unfolding if_then_else_ isWithin nth setNth valueOf emptyLog entryAt withEntry freshSigner grants sign _and_ _or_ neg plus countIn everyIn countOf everyOf someOf nextRound coordinator phaseOf identifierOf inSet setOf withBoard nothingDelivered logOf heard deliver noCopies receiversAt withReceiversAt nothingOwed copiesOf withCopies receivers withReceivers lacks afterSigning afterDelivery says bears opens counts countsSome divided allowedAfter allowed acceptsOpening acceptsBallot acceptsSome freshPosition freshBoard isStarted isDecided isEnded hasDecided withStatus startingWith propose hears deliverTo suspect someValue openedValue tally borneBy valueWith openMove mayVote voteMove mayCount nextEstimate onward countMove moveAt rule numberOf answerTo atStage positionAfter statusAfter statement saidIn hearsOwn turnIn turn convinced announce usesOther usesId usesValue boardAt signerAt signedBy holders isMark isMarkedSound freshAnswer setupBy benchOf freshBench answerNumber kindRow boardsRow wrongOther wrongId wrongValue fieldsRow markRow pairRow isWaiting refuses startRow endRow signedRow lastRow deliveredRow announcerRow ballotsRow turnRow firstOf checkOf withBoardAt withSignature withOwed afterSaying afterTurn afterHearing effectOf isAccepted stepOf after answersTo standing shown
+unfolding if_then_else_ isWithin nth setNth valueOf emptyLog entryAt withEntry freshSigner grants sign _and_ _or_ neg plus countIn everyIn countOf everyOf someOf nextRound coordinator phaseOf identifierOf inSet setOf withBoard placeOf heardIn nothingDelivered deliver noCopies receiversAt withReceiversAt nothingOwed copiesOf withCopies receivers withReceivers lacks afterSigning afterDelivery says bears opens counts countsSome divided allowedAfter allowed acceptsOpening acceptsBallot acceptsSome freshPosition freshBoard isStarted isDecided isEnded hasDecided withStatus startingWith propose hears deliverTo suspect someValue openedValue tally borneBy valueWith openMove mayVote voteMove mayCount nextEstimate onward countMove moveAt rule numberOf answerTo atStage positionAfter statusAfter statement saidIn hearsOwn turnIn turn convinced announce usesOther usesId usesValue boardAt signerAt signedBy holders isMark isMarkedSound freshAnswer setupBy benchOf freshBench answerNumber kindRow boardsRow wrongOther wrongId wrongValue fieldsRow markRow pairRow isWaiting refuses startRow endRow signedRow lastRow deliveredRow announcerRow ballotsRow turnRow firstOf checkOf withBoardAt withSignature withOwed afterSaying afterTurn afterHearing effectOf isAccepted stepOf after answersTo standing shown
 examples =
     record {
       letter-l = refl;

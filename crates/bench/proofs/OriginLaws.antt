@@ -111,7 +111,6 @@ module _ (L : Limits) (S : Setup) (g : Ground L S) (H : History) (c : Bench) (f 
           (boardAt L c k .delivered)
           (coordinator (c .n) r)
           0
-          (f .proper k .whole)
           (within-zero (L .identifiers) 0 refl)))
 
   module _ (e : Event) (c′ : Bench) (l : Legal L c e c′) (w : Account L S c e c′) where

@@ -1,91 +1,72 @@
 -- Laws of what a board has delivered. Assumes nothing.
-use Prim.Native.Nat.{ℕ}
-use mathlib.Core.Path.{_≡_, refl, ap, sym, subst⁻¹, _∙_}
+use Prim.Native.Nat.{ℕ, _*_}
+use mathlib.Core.Path.{_≡_, refl, ap, _∙_}
 use mathlib.Core.List.{List}
 use mathlib.Core.Bool.{true, false}
 use mathlib.Core.Logic.{_⊎_, inl, inr, ⊎-elim}
 use native.Mathlib.Omega.{arith}
+use native.Mathlib.Decide.{ℕ-discrete}
 use borrow.Author.Tests.{eqb-true, eq-eqb, ne-eqb}
 use lib.Dec.{eqb}
 use lib.ListN.{length, length-replicate}
 use Rattle.signer.specs.FromOne.{setNth}
-use Rattle.signer.specs.Log.{isIdentifier, entryOf, emptyLog, entryAt, withEntry}
-use Rattle.signer.specs.declared.log.Log.{Log}
+use Rattle.signer.specs.Log.{isIdentifier, entryOf}
 use Rattle.signer.proofs.ChoiceLaws.{if-elim, if-true, if-false}
-use Rattle.signer.proofs.FromOneLaws.{nth-none, setNth-none, length-setNth, nth-set-same, nth-replicate, within-high, within-low, within-out, nth-change}
-use Rattle.signer.proofs.LogLaws.{Whole as WholeLog, empty-whole, with-whole, entry-empty, entry-same, entry-outside, entry-change}
+use Rattle.signer.proofs.FromOneLaws.{nth-none, setNth-none, length-setNth, nth-set-same, nth-replicate, within-low, nth-change}
 use Rattle.delivery.specs.Limits.{Limits}
 use Rattle.delivery.specs.Bus.{isBoard}
-use Rattle.delivery.specs.Delivered.{nothingDelivered, logOf, heard, deliver}
+use Rattle.delivery.specs.Delivered.{placeOf, heardIn, nothingDelivered, heard, deliver}
 use Rattle.delivery.specs.declared.delivered.Delivered.{Delivered}
+use Rattle.delivery.proofs.PlaceLaws.{place-nobody, place-outside, place-there, place-high, place-own}
 
--- there is a log for each board, with an entry for each identifier
+-- there is an entry for each board and identifier
 pub record Whole (L : Limits) (d : Delivered) : Type 0 where
-  pub size : length (d .logs) ≡ L .boards
-  pub each : (s : ℕ) → WholeLog (L .identifiers) (logOf L d s)
-
--- what is heard of a speaker is what its log has
-pub heard-log : (L : Limits) (d : Delivered) (s i : ℕ) → heard L d s i ≡ entryAt (logOf L d s) i
-unfolding heard
-heard-log L d s i = refl
+  pub size : length (d .entries) ≡ L .boards * L .identifiers
 
 -- where nothing is delivered
-log-nothing : (L : Limits) (s : ℕ) → logOf L (nothingDelivered L) s ≡ emptyLog (L .identifiers)
-unfolding nothingDelivered logOf
-log-nothing L s = nth-replicate (L .boards) s (emptyLog (L .identifiers))
-
 pub nothing-whole : (L : Limits) → Whole L (nothingDelivered L)
 unfolding nothingDelivered
-nothing-whole L =
-    record {
-      size = length-replicate (L .boards) (emptyLog (L .identifiers));
-      each = λ s. subst⁻¹ (WholeLog (L .identifiers)) (log-nothing L s) (empty-whole (L .identifiers));
-    }
+nothing-whole L = record { size = length-replicate (L .boards * L .identifiers) 0 }
 
 pub heard-nothing : (L : Limits) (s i : ℕ) → heard L (nothingDelivered L) s i ≡ 0
-unfolding heard
-heard-nothing L s i = ap (λ (l : Log). entryAt l i) (log-nothing L s) ∙ entry-empty (L .identifiers) i
+unfolding heardIn nothingDelivered
+heard-nothing L s i = nth-replicate (L .boards * L .identifiers) (placeOf L s i) 0
 
--- a number that is no board's has said nothing
-pub log-nobody : (L : Limits) (d : Delivered) (s : ℕ) → length (d .logs) ≡ L .boards → isBoard L s ≡ false
-    → logOf L d s ≡ emptyLog (L .identifiers)
-unfolding logOf
-log-nobody L d s n h = nth-none (d .logs) s (emptyLog (L .identifiers)) (λ l. omega (arith, within-out (L .boards) s h l))
+-- nothing is read where there is no place
+pub heard-nowhere : (L : Limits) (es : List ℕ) (s i : ℕ) → placeOf L s i ≡ 0 → heardIn L es s i ≡ 0
+unfolding heardIn
+heard-nowhere L es s i z = nth-none es (placeOf L s i) 0 (λ l. absurd (omega (arith, z)))
 
-pub heard-nobody : (L : Limits) (d : Delivered) (s i : ℕ) → length (d .logs) ≡ L .boards → isBoard L s ≡ false
-    → heard L d s i ≡ 0
-unfolding heard
-heard-nobody L d s i n h = ap (λ (l : Log). entryAt l i) (log-nobody L d s n h) ∙ entry-empty (L .identifiers) i
+-- so a number that is no board's has said nothing
+pub heard-nobody : (L : Limits) (es : List ℕ) (s i : ℕ) → isBoard L s ≡ false → heardIn L es s i ≡ 0
+heard-nobody L es s i h = heard-nowhere L es s i (place-nobody L s i h)
 
--- nobody has said anything under a number that is no identifier
-pub heard-outside : (L : Limits) (d : Delivered) (s i : ℕ) → Whole L d → isIdentifier (L .identifiers) i ≡ false
-    → heard L d s i ≡ 0
-unfolding heard
-heard-outside L d s i w h = entry-outside (L .identifiers) (logOf L d s) i (w .each s) h
+-- and nobody has said anything under a number that is no identifier
+pub heard-outside : (L : Limits) (d : Delivered) (s i : ℕ) → isIdentifier (L .identifiers) i ≡ false → heard L d s i ≡ 0
+heard-outside L d s i h = heard-nowhere L (d .entries) s i (place-outside L s i h)
 
 -- with entry e stored under (s, i), whether there is one or not
 abbrev pub stored : Limits → Delivered → ℕ → ℕ → ℕ → Delivered
-stored L d s i e = record { logs = setNth (d .logs) s (withEntry (logOf L d s) i e) }
+stored L d s i e = record { entries = setNth (d .entries) (placeOf L s i) e }
 
-log-stored : (L : Limits) (d : Delivered) (s i e s′ : ℕ) → (logOf L (stored L d s i e) s′ ≡ logOf L d s′)
-    ⊎ ((s′ ≡ s) × (logOf L (stored L d s i e) s′ ≡ withEntry (logOf L d s) i e))
-unfolding logOf
-log-stored L d s i e s′ = nth-change (d .logs) s′ s (withEntry (logOf L d s) i e) (emptyLog (L .identifiers))
+-- where there is no place nothing is stored
+pub stored-nowhere : (L : Limits) (d : Delivered) (s i e : ℕ) → placeOf L s i ≡ 0 → stored L d s i e ≡ d
+stored-nowhere L d s i e z =
+    ap (λ (es : List ℕ). record { entries = es }) (setNth-none (d .entries) (placeOf L s i) e (λ l. absurd (omega (arith, z))))
 
 heard-stored : (L : Limits) (d : Delivered) (s i e s′ i′ : ℕ) → (heard L (stored L d s i e) s′ i′ ≡ heard L d s′ i′)
     ⊎ ((s′ ≡ s) × (i′ ≡ i) × (heard L (stored L d s i e) s′ i′ ≡ e))
-unfolding heard
-heard-stored L d s i e s′ i′ = ⊎-elim (λ h. inl (ap (λ (l : Log). entryAt l i′) h)) here (log-stored L d s i e s′)
+unfolding heardIn
+heard-stored L d s i e s′ i′ = go (ℕ-discrete (placeOf L s i) 0)
   where
-    here : (s′ ≡ s) × (logOf L (stored L d s i e) s′ ≡ withEntry (logOf L d s) i e)
-        → (heard L (stored L d s i e) s′ i′ ≡ heard L d s′ i′)
+    go : Dec (placeOf L s i ≡ 0) → (heard L (stored L d s i e) s′ i′ ≡ heard L d s′ i′)
         ⊎ ((s′ ≡ s) × (i′ ≡ i) × (heard L (stored L d s i e) s′ i′ ≡ e))
-    here h =
-        let new = ap (λ (l : Log). entryAt l i′) (h .1) in
+    go (yes z) = inl (ap (λ (t : Delivered). heard L t s′ i′) (stored-nowhere L d s i e z))
+    go (no z) =
         ⊎-elim
-        (λ g. inl (new ∙ g ∙ ap (λ (t : ℕ). heard L d t i′) (sym (h .0))))
-        (λ g. inr (h .0, g .0, new ∙ g .1))
-        (entry-change (logOf L d s) i e i′)
+        inl
+        (λ h. let o = place-own L s i s′ i′ z (h .0) in inr (o .0, o .1, h .1))
+        (nth-change (d .entries) (placeOf L s′ i′) (placeOf L s i) e 0)
 
 module _ (L : Limits) (d : Delivered) (s i v : ℕ) where
   -- a statement is stored where there is none, and where there is one nothing changes
@@ -97,48 +78,30 @@ module _ (L : Limits) (d : Delivered) (s i v : ℕ) where
   unfolding deliver
   deliver-there h = if-false (eqb (heard L d s i) 0) (stored L d s i (entryOf v)) d (ne-eqb (heard L d s i) 0 h)
 
-  -- one that no board can make is left out
-  pub deliver-nobody : length (d .logs) ≡ L .boards → isBoard L s ≡ false → deliver L d s i v ≡ d
-  deliver-nobody n h =
-      deliver-new (heard-nobody L d s i n h)
-      ∙ ap
-      (λ (ls : List Log). record { logs = ls })
-      (setNth-none (d .logs) s (withEntry (logOf L d s) i (entryOf v)) (λ l. omega (arith, within-out (L .boards) s h l)))
-
   pub deliver-whole : Whole L d → Whole L (deliver L d s i v)
   unfolding deliver
   deliver-whole w =
-      if-elim (Whole L) (eqb (heard L d s i) 0) (stored L d s i (entryOf v)) d (λ _. record { size = size′; each = each′ }) (λ _. w)
-    where
-      size′ : length (stored L d s i (entryOf v) .logs) ≡ L .boards
-      size′ = length-setNth (d .logs) s (withEntry (logOf L d s) i (entryOf v)) ∙ w .size
-
-      each′ : (t : ℕ) → WholeLog (L .identifiers) (logOf L (stored L d s i (entryOf v)) t)
-      each′ t =
-          ⊎-elim
-          (λ e. subst⁻¹ (WholeLog (L .identifiers)) e (w .each t))
-          (λ e. subst⁻¹
-          (WholeLog (L .identifiers))
-          (e .1)
-          (with-whole (L .identifiers) (logOf L d s) i (entryOf v) (w .each s)))
-          (log-stored L d s i (entryOf v) t)
+      if-elim
+      (Whole L)
+      (eqb (heard L d s i) 0)
+      (stored L d s i (entryOf v))
+      d
+      (λ _. record { size = length-setNth (d .entries) (placeOf L s i) (entryOf v) ∙ w .size })
+      (λ _. w)
 
   -- the statement is then there
   pub deliver-same : Whole L d → isBoard L s ≡ true → isIdentifier (L .identifiers) i ≡ true → heard L d s i ≡ 0
       → heard L (deliver L d s i v) s i ≡ entryOf v
-  unfolding heard logOf
+  unfolding heardIn
   deliver-same w b h n =
       ap (λ (t : Delivered). heard L t s i) (deliver-new n)
-      ∙ ap
-      (λ (l : Log). entryAt l i)
-      (nth-set-same
-      (d .logs)
-      s
-      (withEntry (logOf L d s) i (entryOf v))
-      (emptyLog (L .identifiers))
-      (within-low (L .boards) s b)
-      (omega (arith, w .size, within-high (L .boards) s b)))
-      ∙ entry-same (L .identifiers) (logOf L d s) i (entryOf v) (w .each s) h
+      ∙ nth-set-same
+      (d .entries)
+      (placeOf L s i)
+      (entryOf v)
+      0
+      (omega (arith, place-there L s i b h, within-low (L .identifiers) i h))
+      (omega (arith, w .size, place-high L s i))
 
   -- nothing else changes: what is there afterwards was there before, or is this statement, where there was none
   pub deliver-only : (s′ i′ : ℕ) → (heard L (deliver L d s i v) s′ i′ ≡ heard L d s′ i′)

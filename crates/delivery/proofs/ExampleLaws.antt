@@ -8,12 +8,12 @@ use borrow.Author.Tests.{eqb-true, eq-eqb}
 use lib.Dec.{eqb}
 use Rattle.signer.specs.Choice.{if_then_else_}
 use Rattle.signer.specs.FromOne.{isWithin, nth, setNth}
-use Rattle.signer.specs.Log.{emptyLog, entryAt, withEntry, entryOf}
+use Rattle.signer.specs.Log.{entryOf}
 use Rattle.delivery.specs.Tests.{_and_, _or_, neg}
 use Rattle.delivery.specs.Counting.{plus, countIn}
 use Rattle.delivery.specs.Limits.{limits}
 use Rattle.delivery.specs.Rounds.{coordinator, phaseOf, identifierOf}
-use Rattle.delivery.specs.Delivered.{nothingDelivered, logOf, heard, deliver}
+use Rattle.delivery.specs.Delivered.{placeOf, heardIn, nothingDelivered, heard, deliver}
 use Rattle.delivery.specs.Acceptance.{says, bears, allowed}
 use Rattle.delivery.specs.Examples.{nine-blank, blank-blank, nine-blank-blank, nine-alone, nine-nine-blank, unopened, LetterE, LetterF, LetterG, LetterH, LetterI, LetterJ, LetterK}
 use Rattle.delivery.specs.declared.delivered.Delivered.{Delivered}
@@ -66,8 +66,8 @@ tallies : (Tallied 3 nine-blank 1 1 10)
     × (Tallied 4 nine-blank-blank 2 1 1)
     × (Tallied 4 nine-nine-blank 1 2 10)
 unfolding
-    heard logOf deliver nothingDelivered identifierOf phaseOf isWithin coordinator _and_ _or_ neg if_then_else_ says bears
-    among countIn plus nth setNth emptyLog entryAt withEntry
+    heardIn placeOf deliver nothingDelivered identifierOf phaseOf isWithin coordinator _and_ _or_ neg if_then_else_ says bears
+    among countIn plus nth setNth
 tallies = (
   record { opening = refl; blanks = refl; backers = refl; left = refl },
   record { opening = refl; blanks = refl; backers = refl; left = refl },
@@ -80,8 +80,7 @@ tallies = (
 -- letter k: no opening was heard, so no ballot with a value is accepted
 pub letter-k : LetterK
 unfolding
-    heard logOf deliver nothingDelivered identifierOf phaseOf isWithin coordinator _and_ if_then_else_ nth setNth emptyLog
-    entryAt withEntry
+    heardIn placeOf deliver nothingDelivered identifierOf phaseOf isWithin coordinator _and_ if_then_else_ nth setNth
 letter-k v = (
   refl,
   λ s w z.

@@ -2,6 +2,7 @@ pub mod TestLaws
 pub mod CountLaws
 pub mod RoundLaws
 pub mod SetLaws
+pub mod PlaceLaws
 pub mod DeliveredLaws
 pub mod OwedLaws
 pub mod EchoLaws

@@ -4,10 +4,9 @@ use native.Mathlib.Omega.{arith}
 use mathlib.Core.Path.{_≡_, refl, sym, ap, fun-ext, _∙_}
 use mathlib.Core.Bool.{Bool, true, false, true≢false}
 use mathlib.Core.Logic.{_⊎_, inl, inr, ⊎-elim}
-use mathlib.Core.List.{[], List·Memᴰ·not-nil}
+use mathlib.Core.List.{List, [], List·Memᴰ·not-nil}
 use borrow.Author.Tests.{eqb-true, eq-eqb, ne-eqb, leb-true, le-leb}
 use lib.Dec.{eqb, leb}
-use lib.ListN.{length}
 use Rattle.signer.specs.Choice.{if_then_else_}
 use Rattle.signer.specs.Log.{entryOf}
 use Rattle.signer.proofs.ChoiceLaws.{if-elim}
@@ -17,9 +16,8 @@ use Rattle.delivery.specs.Limits.{Limits}
 use Rattle.delivery.specs.Bus.{isBoard, quorum, overlap}
 use Rattle.delivery.specs.Rounds.{identifierOf}
 use Rattle.delivery.specs.Sets.{setOf, bits}
-use Rattle.delivery.specs.Delivered.{Store, heard}
+use Rattle.delivery.specs.Delivered.{Store, heardIn}
 use Rattle.delivery.specs.Acceptance.{says, bears, allowedAfter, allowed, opens}
-use Rattle.delivery.specs.declared.delivered.Delivered.{Delivered}
 use Rattle.delivery.specs.declared.round.Phase.the-variants.{Ballot}
 use Rattle.signer.proofs.FromOneLaws.{within-high}
 use Rattle.delivery.proofs.CountLaws.{count-cong}
@@ -33,38 +31,38 @@ use Rattle.delivery.proofs.AgreementLaws.{after-was}
 use Rattle.delivery.proofs.AllowanceLaws.{Opened, backs, blank, backing, carries-counts, many-allowed, few-allowed, opened-entry}
 
 -- a number that no board can have bears nothing
-module _ (L : Limits) (d : Delivered) (r : ℕ) (size : length (d .logs) ≡ L .boards) where
-  silent : (s : ℕ) → L .boards < s → ballotEntry L (heard L d) r s ≡ 0
+module _ (L : Limits) (es : List ℕ) (r : ℕ) where
+  silent : (s : ℕ) → L .boards < s → ballotEntry L (heardIn L es) r s ≡ 0
   silent s l =
-      heard-nobody L d s (identifierOf L Ballot r) size (fails (isBoard L s) (λ b. omega (arith, within-high (L .boards) s b)))
+      heard-nobody L es s (identifierOf L Ballot r) (fails (isBoard L s) (λ b. omega (arith, within-high (L .boards) s b)))
 
-  bears-nobody : (w s : ℕ) → L .boards < s → bears L (heard L d) r w s ≡ false
+  bears-nobody : (w s : ℕ) → L .boards < s → bears L (heardIn L es) r w s ≡ false
   bears-nobody w s l =
-      fails (bears L (heard L d) r w s) (λ b. omega (arith, silent s l, bears-reads L (heard L d) r w s b))
+      fails (bears L (heardIn L es) r w s) (λ b. omega (arith, silent s l, bears-reads L (heardIn L es) r w s b))
 
   -- so a search among the boards that there can be finds all of 1 to n whose ballots have an entry
   pub bearing-found : (n x : ℕ) → (x ≡ 0 → ⊥)
-      → setOf (min n (L .boards)) (λ (s : ℕ). eqb (ballotEntry L (heard L d) r s) x)
-      ≡ setOf n (λ (s : ℕ). says x (λ (w : ℕ). bears L (heard L d) r w s))
+      → setOf (min n (L .boards)) (λ (s : ℕ). eqb (ballotEntry L (heardIn L es) r s) x)
+      ≡ setOf n (λ (s : ℕ). says x (λ (w : ℕ). bears L (heardIn L es) r w s))
   bearing-found n x z =
       sym
-      (set-cong n _ _ (λ s l u. says-bears L (heard L d) r x s z)
+      (set-cong n _ _ (λ s l u. says-bears L (heardIn L es) r x s z)
       ∙ set-beyond
       n
       (L .boards)
-      (λ (s : ℕ). eqb (ballotEntry L (heard L d) r s) x)
-      (λ s l. ne-eqb (ballotEntry L (heard L d) r s) x (λ q. z (sym q ∙ silent s l))))
+      (λ (s : ℕ). eqb (ballotEntry L (heardIn L es) r s) x)
+      (λ s l. ne-eqb (ballotEntry L (heardIn L es) r s) x (λ q. z (sym q ∙ silent s l))))
 
   -- and two such sets, joined, fit into one
   pub bearing-fits : (n x : ℕ) → L .boards ≤ bits
-      → setOf n (λ (s : ℕ). bears L (heard L d) r 0 s or says x (λ (w : ℕ). bears L (heard L d) r w s)) < 2 ^ bits
+      → setOf n (λ (s : ℕ). bears L (heardIn L es) r 0 s or says x (λ (w : ℕ). bears L (heardIn L es) r w s)) < 2 ^ bits
   unfolding _or_
   bearing-fits n x l =
       set-fits
       n
       (L .boards)
-      (λ (s : ℕ). bears L (heard L d) r 0 s or says x (λ (w : ℕ). bears L (heard L d) r w s))
-      (λ s g. rw (bears-nobody 0 s g) (says-none x (λ (w : ℕ). bears L (heard L d) r w s) (λ w. bears-nobody w s g)))
+      (λ (s : ℕ). bears L (heardIn L es) r 0 s or says x (λ (w : ℕ). bears L (heardIn L es) r w s))
+      (λ s g. rw (bears-nobody 0 s g) (says-none x (λ (w : ℕ). bears L (heardIn L es) r w s) (λ w. bears-nobody w s g)))
       l
 
 -- What the program carries over the rounds, an allowance: 0 stands for no value, 1 for every value, any other number

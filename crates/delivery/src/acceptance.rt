@@ -7,13 +7,14 @@ ghost use Rattle.delivery.specs.Counting.{countIn};
 ghost use Rattle.delivery.specs.Limits.{limits};
 ghost use Rattle.delivery.specs.Rounds.{coordinator, identifierOf};
 ghost use Rattle.delivery.specs.Sets.{setOf};
-ghost use Rattle.delivery.specs.Delivered.{heard};
+ghost use Rattle.delivery.specs.Delivered.{heardIn, heard};
 ghost use Rattle.delivery.specs.Acceptance.{says, bears, allowed, acceptsOpening, acceptsBallot, acceptsSome};
 use crate::bus;
 use crate::delivered::Delivered;
 use crate::round::Phase;
 use crate::round::Round;
 use crate::set;
+use crate::store;
 use signer::Identifier;
 use signer::Log;
 
@@ -67,138 +68,179 @@ fn settled(q: u8, e: u8, blank: u8, backing: u8, before: u32, opening: u32) -> u
     opening
 }
 
+// The boards of 1 to n with this entry under an identifier.
+fn speakers(store: &[u32; store::PLACES], n: u8, id: Identifier, entry: u32) -> u16
+    ensures { λ r. ⌜ r ≡ setOf (min n (limits .boards)) (λ (s : ℕ). eqb (heardIn limits (now (store .entry)) s (id .0)) entry) ⌝ }
+{
+    let mut m = n;
+    if n > Delivered::BOARDS {
+        m = Delivered::BOARDS;
+    }
+    let mut speakers = 0u16;
+    let mut k = 0u8;
+    while k < m {
+        if store::entry(store, k + 1, id) == entry {
+            speakers = set::with(speakers, k + 1);
+        }
+        k += 1;
+    }
+    speakers
+}
+
+// The boards of 1 to n whose ballot of a round has this entry; no ballot has entry 0.
+fn bearing(store: &[u32; store::PLACES], n: u8, round: Round, entry: u32) -> u16
+    ensures { λ r. ⌜ r ≡ setOf n (λ (s : ℕ). says entry (λ (w : ℕ). bears limits (heardIn limits (now (store .entry))) (round .0) w s)) ⌝ }
+{
+    if entry == 0 {
+        return 0;
+    }
+    speakers(store, n, round.identifier(Phase::Ballot), entry)
+}
+
+// How many these are.
+pub fn tally(store: &[u32; store::PLACES], n: u8, round: Round, entry: u32) -> u8
+    ensures { λ r. ⌜ r ≡ countIn n (λ (s : ℕ). says entry (λ (w : ℕ). bears limits (heardIn limits (now (store .entry))) (round .0) w s)) ⌝ }
+{
+    set::count(bearing(store, n, round, entry), n)
+}
+
+// The entry of the opening that the round's coordinator sent.
+pub fn opening(store: &[u32; store::PLACES], n: u8, round: Round) -> u32
+    ensures { λ r. ⌜ r ≡ heardIn limits (now (store .entry)) (coordinator n (round .0)) (identifierOf limits Phase.Opening (round .0)) ⌝ }
+{
+    store::entry(
+        store,
+        round.coordinator(n),
+        round.identifier(Phase::Opening),
+    )
+}
+
+// Whether the value of this entry is allowed in a round: one pass over the rounds before it.
+fn allows(store: &[u32; store::PLACES], n: u8, round: Round, entry: u32) -> bool
+    ensures { λ r. ⌜ r ≡ says entry (allowed limits n (heardIn limits (now (store .entry))) (round .0)) ⌝ }
+{
+    let last = round.0;
+    if last == 0 {
+        return false;
+    }
+    if entry < 2 {
+        return false;
+    }
+    // of no boards q is 0: no ballot is asked for
+    if n == 0 {
+        return true;
+    }
+    let q = bus::quorum(n);
+    let e = bus::overlap(n);
+    let mut allowance = EVERY_VALUE;
+    let mut r = 1u8;
+    while r < last {
+        let earlier = Round(r);
+        let opening = opened(allowance, opening(store, n, earlier));
+        let blank = tally(store, n, earlier, Log::entry_of(Log::BLANK));
+        let backing = tally(store, n, earlier, opening);
+        allowance = settled(q, e, blank, backing, allowance, opening);
+        r += 1;
+    }
+    if allowance == EVERY_VALUE {
+        return true;
+    }
+    allowance == entry
+}
+
+// Whether the opening of a round with a value is accepted.
+pub fn accepts_opening(store: &[u32; store::PLACES], n: u8, round: Round, value: u16) -> bool
+    ensures { λ r. ⌜ r ≡ acceptsOpening limits n (heardIn limits (now (store .entry))) (round .0) value ⌝ }
+{
+    let entry = opening(store, n, round);
+    if entry != Log::entry_of(value) {
+        return false;
+    }
+    allows(store, n, round, entry)
+}
+
+// Whether a speaker's ballot of a round with a value is accepted.
+fn accepts_ballot(
+    store: &[u32; store::PLACES],
+    n: u8,
+    round: Round,
+    speaker: u8,
+    value: u16,
+) -> bool
+    ensures { λ r. ⌜ r ≡ acceptsBallot limits n (heardIn limits (now (store .entry))) (round .0) speaker value ⌝ }
+{
+    let entry = store::entry(store, speaker, round.identifier(Phase::Ballot));
+    if entry != Log::entry_of(value) {
+        return false;
+    }
+    if value == Log::BLANK {
+        return true;
+    }
+    accepts_opening(store, n, round, value)
+}
+
+// The boards of 1 to n whose accepted ballots of a round bear a value.
+pub fn ballots_for(store: &[u32; store::PLACES], n: u8, round: Round, value: u16) -> u16
+    ensures { λ r. ⌜ r ≡ setOf n (λ (s : ℕ). acceptsBallot limits n (heardIn limits (now (store .entry))) (round .0) s value) ⌝ }
+{
+    let speakers = bearing(store, n, round, Log::entry_of(value));
+    if value == Log::BLANK {
+        return speakers;
+    }
+    if accepts_opening(store, n, round, value) {
+        return speakers;
+    }
+    0
+}
+
+// The boards of 1 to n with an accepted ballot of a round, whatever it bears.
+pub fn ballots(store: &[u32; store::PLACES], n: u8, round: Round) -> u16
+    ensures { λ r. ⌜ r ≡ setOf n (acceptsSome limits n (heardIn limits (now (store .entry))) (round .0)) ⌝ }
+{
+    let blank = bearing(store, n, round, Log::entry_of(Log::BLANK));
+    let opening = opening(store, n, round);
+    if !allows(store, n, round, opening) {
+        return blank;
+    }
+    set::union(blank, bearing(store, n, round, opening))
+}
+
+// The same by what one board has delivered.
 impl Delivered {
-    // The boards of 1 to n with this entry under an identifier.
-    fn speakers(self, n: u8, id: Identifier, entry: u32) -> u16
-        ensures { λ r. ⌜ r ≡ setOf (min n (limits .boards)) (λ (s : ℕ). eqb (heard limits self s (id .0)) entry) ⌝ }
-    {
-        let mut m = n;
-        if n > Delivered::BOARDS {
-            m = Delivered::BOARDS;
-        }
-        let mut speakers = 0u16;
-        let mut k = 0u8;
-        while k < m {
-            if self.entry(k + 1, id) == entry {
-                speakers = set::with(speakers, k + 1);
-            }
-            k += 1;
-        }
-        speakers
-    }
-
-    // The boards of 1 to n whose ballot of a round has this entry; no ballot has entry 0.
-    fn bearing(self, n: u8, round: Round, entry: u32) -> u16
-        ensures { λ r. ⌜ r ≡ setOf n (λ (s : ℕ). says entry (λ (w : ℕ). bears limits (heard limits self) (round .0) w s)) ⌝ }
-    {
-        if entry == 0 {
-            return 0;
-        }
-        self.speakers(n, round.identifier(Phase::Ballot), entry)
-    }
-
-    // How many these are.
-    fn tally(self, n: u8, round: Round, entry: u32) -> u8
-        ensures { λ r. ⌜ r ≡ countIn n (λ (s : ℕ). says entry (λ (w : ℕ). bears limits (heard limits self) (round .0) w s)) ⌝ }
-    {
-        set::count(self.bearing(n, round, entry), n)
-    }
-
-    // The entry of the opening that the round's coordinator sent.
     pub fn opening(self, n: u8, round: Round) -> u32
         ensures { λ r. ⌜ r ≡ heard limits self (coordinator n (round .0)) (identifierOf limits Phase.Opening (round .0)) ⌝ }
     {
-        self.entry(round.coordinator(n), round.identifier(Phase::Opening))
-    }
-
-    // Whether the value of this entry is allowed in a round: one pass over the rounds before it.
-    fn allows(self, n: u8, round: Round, entry: u32) -> bool
-        ensures { λ r. ⌜ r ≡ says entry (allowed limits n (heard limits self) (round .0)) ⌝ }
-    {
-        let last = round.0;
-        if last == 0 {
-            return false;
-        }
-        if entry < 2 {
-            return false;
-        }
-        // of no boards q is 0: no ballot is asked for
-        if n == 0 {
-            return true;
-        }
-        let q = bus::quorum(n);
-        let e = bus::overlap(n);
-        let mut allowance = EVERY_VALUE;
-        let mut r = 1u8;
-        while r < last {
-            let earlier = Round(r);
-            let opening = opened(allowance, self.opening(n, earlier));
-            let blank = self.tally(n, earlier, Log::entry_of(Log::BLANK));
-            let backing = self.tally(n, earlier, opening);
-            allowance = settled(q, e, blank, backing, allowance, opening);
-            r += 1;
-        }
-        if allowance == EVERY_VALUE {
-            return true;
-        }
-        allowance == entry
+        opening(&self.entries, n, round)
     }
 
     // Whether a value is allowed in a round.
     pub fn allowed(self, n: u8, round: Round, value: u16) -> bool
         ensures { λ r. ⌜ r ≡ allowed limits n (heard limits self) (round .0) value ⌝ }
     {
-        self.allows(n, round, Log::entry_of(value))
+        allows(&self.entries, n, round, Log::entry_of(value))
     }
 
-    // Whether the opening of a round with a value is accepted.
     pub fn accepts_opening(self, n: u8, round: Round, value: u16) -> bool
         ensures { λ r. ⌜ r ≡ acceptsOpening limits n (heard limits self) (round .0) value ⌝ }
     {
-        let entry = self.opening(n, round);
-        if entry != Log::entry_of(value) {
-            return false;
-        }
-        self.allows(n, round, entry)
+        accepts_opening(&self.entries, n, round, value)
     }
 
-    // Whether a speaker's ballot of a round with a value is accepted.
     pub fn accepts_ballot(self, n: u8, round: Round, speaker: u8, value: u16) -> bool
         ensures { λ r. ⌜ r ≡ acceptsBallot limits n (heard limits self) (round .0) speaker value ⌝ }
     {
-        let entry = self.entry(speaker, round.identifier(Phase::Ballot));
-        if entry != Log::entry_of(value) {
-            return false;
-        }
-        if value == Log::BLANK {
-            return true;
-        }
-        self.accepts_opening(n, round, value)
+        accepts_ballot(&self.entries, n, round, speaker, value)
     }
 
-    // The boards of 1 to n whose accepted ballots of a round bear a value.
     pub fn ballots_for(self, n: u8, round: Round, value: u16) -> u16
         ensures { λ r. ⌜ r ≡ setOf n (λ (s : ℕ). acceptsBallot limits n (heard limits self) (round .0) s value) ⌝ }
     {
-        let speakers = self.bearing(n, round, Log::entry_of(value));
-        if value == Log::BLANK {
-            return speakers;
-        }
-        if self.accepts_opening(n, round, value) {
-            return speakers;
-        }
-        0
+        ballots_for(&self.entries, n, round, value)
     }
 
-    // The boards of 1 to n with an accepted ballot of a round, whatever it bears.
     pub fn ballots(self, n: u8, round: Round) -> u16
         ensures { λ r. ⌜ r ≡ setOf n (acceptsSome limits n (heard limits self) (round .0)) ⌝ }
     {
-        let blank = self.bearing(n, round, Log::entry_of(Log::BLANK));
-        let opening = self.opening(n, round);
-        if !self.allows(n, round, opening) {
-            return blank;
-        }
-        set::union(blank, self.bearing(n, round, opening))
+        ballots(&self.entries, n, round)
     }
 }

@@ -1,14 +1,15 @@
 ghost use mathlib.Core.Path.{_≡_};
 ghost use Rattle.delivery.specs.Limits.{limits};
 ghost use Rattle.delivery.specs.Bus.{isBoard};
-ghost use Rattle.delivery.specs.Delivered.{nothingDelivered, logOf, heard, deliver};
+ghost use Rattle.delivery.specs.Delivered.{nothingDelivered, heard, deliver};
+use crate::store;
 use signer::Identifier;
 use signer::Log;
 use signer::from_one;
 
 // What one board has delivered: for each speaker, what it said under each identifier.
 pub struct Delivered {
-    pub logs: [Log; Delivered::BOARDS as usize],
+    pub entries: [u32; store::PLACES],
 }
 
 impl Delivered {
@@ -25,28 +26,16 @@ impl Delivered {
     pub fn fresh() -> Delivered
         ensures { λ r. ⌜ r ≡ nothingDelivered limits ⌝ }
     {
-        let empty = Log::empty();
         Delivered {
-            logs: [empty; Delivered::BOARDS as usize],
+            entries: [0u32; store::PLACES],
         }
-    }
-
-    // What a speaker said; a number that is no board's said nothing.
-    pub fn log(self, speaker: u8) -> Log
-        ensures { λ r. ⌜ r ≡ logOf limits self speaker ⌝ }
-    {
-        if !Delivered::is_board(speaker) {
-            return Log::empty();
-        }
-        let logs = self.logs;
-        logs[(speaker - 1) as usize]
     }
 
     // What a speaker said under an identifier, as a log's entry.
     pub fn entry(self, speaker: u8, id: Identifier) -> u32
         ensures { λ r. ⌜ r ≡ heard limits self speaker (id .0) ⌝ }
     {
-        self.log(speaker).entry(id)
+        store::entry(&self.entries, speaker, id)
     }
 
     // With one statement more. What stands there already is kept, and a statement that no board
@@ -57,12 +46,12 @@ impl Delivered {
         if self.entry(speaker, id) != 0 {
             return self;
         }
-        if !Delivered::is_board(speaker) {
+        let place = store::place(speaker, id);
+        if place == 0 {
             return self;
         }
-        let log = self.log(speaker).with_entry(id, Log::entry_of(value));
-        let mut logs = self.logs;
-        logs[(speaker - 1) as usize] = log;
-        Delivered { logs }
+        let mut entries = self.entries;
+        entries[place - 1] = Log::entry_of(value);
+        Delivered { entries }
     }
 }

@@ -1,11 +1,12 @@
 // What a board has heard, what it may believe of it, and which copies are still owed. Nothing here
 // knows a board's turns or the bench.
-mod acceptance;
+pub mod acceptance;
 pub mod bus;
 mod delivered;
 mod owed;
 mod round;
 pub mod set;
+pub mod store;
 
 pub use delivered::Delivered;
 pub use owed::Copies;

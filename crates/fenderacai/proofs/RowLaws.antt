@@ -7,11 +7,8 @@ use mathlib.Core.List.{List, [], _∷_, _++_}
 use lib.ListN.{length, length-append}
 use Rattle.signer.specs.Log.{entryAt}
 use Rattle.delivery.specs.Limits.{Limits, limits}
-use Rattle.delivery.specs.Delivered.{logOf, heard}
 use Rattle.delivery.specs.Owed.{receiversAt, copiesOf, receivers}
-use Rattle.delivery.specs.declared.delivered.Delivered.{Delivered}
 use Rattle.delivery.specs.declared.owed.Owed.{Owed}
-use Rattle.delivery.proofs.DeliveredLaws.{heard-log}
 use Rattle.delivery.proofs.OwedLaws.{receivers-copies}
 use Rattle.bench.specs.Benches.{boardAt, signerAt, signedBy, heardBy}
 use Rattle.bench.specs.declared.bench.Bench.{Bench}
@@ -56,9 +53,6 @@ words-same (suc n) f g e =
 -- a log's entries, and the receivers of copies, as the bench has them
 pub signer-words : (n : ℕ) (c : Bench) (s : ℕ) → wordsTo n (entryAt (signerAt limits c s .log)) ≡ wordsTo n (signedBy limits c s)
 signer-words n c s = words-same n _ _ (λ i. sym (signed-log limits c s i))
-
-pub log-words : (n : ℕ) (d : Delivered) (s : ℕ) → wordsTo n (entryAt (logOf limits d s)) ≡ wordsTo n (heard limits d s)
-log-words n d s = words-same n _ _ (λ i. sym (heard-log limits d s i))
 
 pub copies-words : (n : ℕ) (o : Owed) (s : ℕ) → wordsTo n (receiversAt (copiesOf limits o s)) ≡ wordsTo n (receivers limits o s)
 copies-words n o s = words-same n _ _ (λ i. sym (receivers-copies limits o s i))

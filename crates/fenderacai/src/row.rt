@@ -4,7 +4,7 @@ ghost use mathlib.Core.List.{[], _∷_};
 ghost use lib.ListN.{length};
 ghost use Rattle.signer.specs.Log.{entryAt};
 ghost use Rattle.delivery.specs.Limits.{limits};
-ghost use Rattle.delivery.specs.Delivered.{heard};
+ghost use Rattle.delivery.specs.Delivered.{heardIn, heard};
 ghost use Rattle.delivery.specs.Owed.{receiversAt, receivers};
 ghost use Rattle.bench.specs.Benches.{boardAt, signerAt, signedBy, heardBy};
 ghost use Rattle.schedule.specs.Prints.{linesTo, PutAt};
@@ -14,6 +14,7 @@ use delivery::Copies;
 use delivery::Delivered;
 use delivery::Owed;
 use delivery::Round;
+use delivery::store;
 use signer::Identifier;
 use signer::Log;
 use vote::Board;
@@ -175,15 +176,30 @@ fn signed(out: &mut [u32], at: usize, bench: Bench) -> usize
     next
 }
 
+// What one board delivered of a speaker.
+fn heard(out: &mut [u32], at: usize, store: &[u32; store::PLACES], speaker: u8) -> usize
+    requires { ⌜ at + limits .identifiers ≤ length (now out) ⌝ }
+    ensures { λ r. ⌜ PutAt (wordsTo (limits .identifiers) (heardIn limits (now (store .entry)) speaker)) (now (out .entry)) at (now (out .exit)) r ⌝ }
+{
+    let mut next = at;
+    let mut i = 0u8;
+    while i < Identifier::LAST {
+        next = word(out, next, store::entry(store, speaker, Identifier(i + 1)));
+        i += 1;
+    }
+    next
+}
+
 // What one board delivered.
-fn store(out: &mut [u32], at: usize, store: Delivered) -> usize
+fn stored(out: &mut [u32], at: usize, store: Delivered) -> usize
     requires { ⌜ at + tableSize limits ≤ length (now out) ⌝ }
     ensures { λ r. ⌜ PutAt (tableWords limits (heard limits store)) (now (out .entry)) at (now (out .exit)) r ⌝ }
 {
+    let entries = store.entries;
     let mut next = at;
     let mut k = 0u8;
     while k < Bench::BOARDS {
-        next = log(out, next, store.log(k + 1));
+        next = heard(out, next, &entries, k + 1);
         k += 1;
     }
     next
@@ -198,7 +214,7 @@ fn delivered(out: &mut [u32], at: usize, bench: Bench) -> usize
     let mut k = 0u8;
     while k < Bench::BOARDS {
         let board = bench.board(k + 1);
-        next = store(out, next, board.delivered);
+        next = stored(out, next, board.delivered);
         k += 1;
     }
     next

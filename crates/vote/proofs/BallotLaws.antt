@@ -5,21 +5,23 @@ use native.Mathlib.Decide.{ℕ-discrete}
 use borrow.Author.Tests.{le-leb, leb-true}
 use mathlib.Core.Path.{_≡_, refl, sym, ap, _∙_}
 use mathlib.Core.Bool.{Bool, true, false, true≢false}
+use mathlib.Core.Logic.{inr}
 use lib.Dec.{eqb, leb}
-use Rattle.signer.specs.Log.{values, valueOf}
+use Rattle.signer.specs.Log.{values, valueOf, entryOf}
 use Rattle.signer.proofs.ChoiceLaws.{if-elim, if-true}
 use Rattle.signer.proofs.LogLaws.{value-entry, value-within, entry-value}
 use Rattle.delivery.specs.Tests.{_and_, neg}
+use Rattle.delivery.specs.Counting.{countIn}
 use Rattle.delivery.specs.Limits.{Limits}
 use Rattle.delivery.specs.Bus.{quorum}
 use Rattle.delivery.specs.Rounds.{identifierOf}
 use Rattle.delivery.specs.Delivered.{Store}
-use Rattle.delivery.specs.Acceptance.{acceptsOpening, acceptsBallot, acceptsSome}
+use Rattle.delivery.specs.Acceptance.{says, bears, acceptsOpening, acceptsBallot, acceptsSome}
 use Rattle.delivery.specs.declared.round.Phase.the-variants.{Ballot}
 use Rattle.delivery.proofs.TestLaws.{and-left, and-right, and-in, fails}
-use Rattle.delivery.proofs.CountLaws.{find, count-some, count-mono}
+use Rattle.delivery.proofs.CountLaws.{find, count-some, count-mono, count-cong}
 use Rattle.delivery.proofs.OneRoundLaws.{some-value, value-some}
-use Rattle.delivery.proofs.AllRoundsLaws.{opening-reads, ballot-reads, accepted-reads, reads-accepted, ballot-needs}
+use Rattle.delivery.proofs.AllRoundsLaws.{opening-reads, ballot-reads, ballot-sent, accepted-reads, reads-accepted, ballot-needs}
 use Rattle.delivery.proofs.AgreementLaws.{Won}
 use Rattle.delivery.proofs.GrowthLaws.{Grows, ballot-grows}
 use Rattle.vote.specs.Ballots.{someValue, sentOpening, openedValue, tally, borneBy, valueWith}
@@ -107,6 +109,12 @@ module _ (L : Limits) (n : ℕ) (h : Store) (r : ℕ) where
       let e : valueOf (sentOpening L n h r) ≡ w = ap valueOf (opening-reads L n h r w o .said) ∙ value-entry w l in
       let t : acceptsOpening L n h r (valueOf (sentOpening L n h r)) ≡ true = ap (acceptsOpening L n h r) e ∙ o in
       if-true (acceptsOpening L n h r (valueOf (sentOpening L n h r))) (valueOf (sentOpening L n h r)) 0 t ∙ e
+
+  -- where the opening with w is accepted, so is each ballot that bears w
+  pub tally-opened : (w : ℕ) → acceptsOpening L n h r w ≡ true
+      → countIn n (λ (s : ℕ). says (entryOf w) (λ (v : ℕ). bears L h r v s)) ≡ tally L n h r w
+  unfolding tally says
+  tally-opened w o = count-cong n _ _ (λ s l u. sym (ballot-sent L n h r s w (inr o)))
 
   -- a value that m or more accepted ballots bear, and one at least
   pub record Backed (m w : ℕ) : Type 0 where

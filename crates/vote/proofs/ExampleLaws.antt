@@ -2,12 +2,12 @@
 use mathlib.Core.Path.{refl}
 use Rattle.signer.specs.Choice.{if_then_else_}
 use Rattle.signer.specs.FromOne.{isWithin, nth, setNth}
-use Rattle.signer.specs.Log.{valueOf, emptyLog, entryAt, withEntry}
+use Rattle.signer.specs.Log.{valueOf}
 use Rattle.delivery.specs.Tests.{_and_, _or_, neg}
 use Rattle.delivery.specs.Counting.{plus, countIn, everyIn, countOf, everyOf, someOf}
 use Rattle.delivery.specs.Rounds.{nextRound, coordinator, phaseOf, identifierOf}
 use Rattle.delivery.specs.Sets.{inSet, setOf, withBoard}
-use Rattle.delivery.specs.Delivered.{nothingDelivered, logOf, heard, deliver}
+use Rattle.delivery.specs.Delivered.{placeOf, heardIn, nothingDelivered, deliver}
 use Rattle.delivery.specs.Acceptance.{says, bears, opens, counts, countsSome, divided, allowedAfter, allowed, acceptsOpening, acceptsBallot, acceptsSome}
 use Rattle.vote.specs.Boards.{freshPosition, freshBoard, isStarted, isDecided, withStatus, startingWith, propose, hears, deliverTo, suspect}
 use Rattle.vote.specs.Ballots.{someValue, openedValue, tally, borneBy, valueWith}
@@ -18,7 +18,7 @@ use Rattle.vote.specs.Calls.{called, after}
 use Rattle.vote.specs.Examples.{Examples}
 
 pub examples : Examples
-unfolding if_then_else_ isWithin nth setNth valueOf emptyLog entryAt withEntry _and_ _or_ neg plus countIn everyIn countOf everyOf someOf nextRound coordinator phaseOf identifierOf inSet setOf withBoard nothingDelivered logOf heard deliver says bears opens counts countsSome divided allowedAfter allowed acceptsOpening acceptsBallot acceptsSome freshPosition freshBoard isStarted isDecided withStatus startingWith propose hears deliverTo suspect someValue openedValue tally borneBy valueWith openMove mayVote voteMove mayCount nextEstimate onward countMove moveAt rule numberOf answerTo atStage positionAfter statusAfter statement saidIn hearsOwn turnIn turn convinced announce called after
+unfolding if_then_else_ isWithin nth setNth valueOf _and_ _or_ neg plus countIn everyIn countOf everyOf someOf nextRound coordinator phaseOf identifierOf inSet setOf withBoard placeOf heardIn nothingDelivered deliver says bears opens counts countsSome divided allowedAfter allowed acceptsOpening acceptsBallot acceptsSome freshPosition freshBoard isStarted isDecided withStatus startingWith propose hears deliverTo suspect someValue openedValue tally borneBy valueWith openMove mayVote voteMove mayCount nextEstimate onward countMove moveAt rule numberOf answerTo atStage positionAfter statusAfter statement saidIn hearsOwn turnIn turn convinced announce called after
 examples =
     record {
       letter-l = refl;

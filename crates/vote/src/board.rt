@@ -4,7 +4,6 @@ ghost use Rattle.delivery.specs.Delivered.{heard};
 ghost use Rattle.vote.specs.Ballots.{tally};
 ghost use Rattle.vote.specs.Boards.{freshPosition, startingWith, freshBoard, isStarted, isDecided, isEnded, hasDecided, propose, deliverTo, suspect, trust};
 ghost use Rattle.vote.specs.Announcements.{announce};
-use crate::ballots;
 use crate::position::Position;
 use crate::position::Stage;
 use crate::statement::Statement;
@@ -174,7 +173,7 @@ impl Board {
     pub fn tally(self, n: u8, round: Round, value: u16) -> u8
         ensures { λ r. ⌜ r ≡ tally limits n (heard limits (self .delivered)) (round .0) value ⌝ }
     {
-        ballots::tally(self.delivered, n, round, value)
+        set::count(self.delivered.ballots_for(n, round, value), n)
     }
 
     // An announcement that another board decided a value in a round. The board decides the same if its own

@@ -1,14 +1,16 @@
 ghost use mathlib.Core.Path.{_≡_};
 ghost use Rattle.delivery.specs.Limits.{limits};
-ghost use Rattle.delivery.specs.Delivered.{heard};
+ghost use Rattle.delivery.specs.Delivered.{heardIn, heard};
 ghost use Rattle.vote.specs.Rule.{openMove, mayVote, voteMove, mayCount, nextEstimate, onward, countMove, rule};
 use crate::ballots;
 use crate::position::Position;
 use crate::position::Stage;
 use delivery::Delivered;
 use delivery::Round;
+use delivery::acceptance;
 use delivery::bus;
 use delivery::set;
+use delivery::store;
 use signer::Log;
 
 // What a board does in a turn.
@@ -34,31 +36,31 @@ impl Position {
     }
 
     // Whether the board may vote: its coordinator's opening is there, or the coordinator is suspected.
-    fn may_vote(self, n: u8, delivered: Delivered) -> bool
-        ensures { λ r. ⌜ r ≡ mayVote limits n self (heard limits delivered) ⌝ }
+    fn may_vote(self, n: u8, store: &[u32; store::PLACES]) -> bool
+        ensures { λ r. ⌜ r ≡ mayVote limits n self (heardIn limits (now (store .entry))) ⌝ }
     {
         let round = self.round;
-        if delivered.opening(n, round) != 0 {
+        if acceptance::opening(store, n, round) != 0 {
             return true;
         }
         set::has(self.suspected, round.coordinator(n))
     }
 
     // Stage B.
-    fn vote_move(self, n: u8, delivered: Delivered) -> Move
-        ensures { λ r. ⌜ r ≡ voteMove limits n self (heard limits delivered) ⌝ }
+    fn vote_move(self, n: u8, store: &[u32; store::PLACES]) -> Move
+        ensures { λ r. ⌜ r ≡ voteMove limits n self (heardIn limits (now (store .entry))) ⌝ }
     {
-        if !self.may_vote(n, delivered) {
+        if !self.may_vote(n, store) {
             return Move::Waits;
         }
-        Move::Ballots(ballots::opened_value(delivered, n, self.round))
+        Move::Ballots(ballots::opened_value(store, n, self.round))
     }
 
     // Whether the board may count: a quorum has ballots, and every board without one is suspected.
-    fn may_count(self, n: u8, delivered: Delivered) -> bool
-        ensures { λ r. ⌜ r ≡ mayCount limits n self (heard limits delivered) ⌝ }
+    fn may_count(self, n: u8, store: &[u32; store::PLACES]) -> bool
+        ensures { λ r. ⌜ r ≡ mayCount limits n self (heardIn limits (now (store .entry))) ⌝ }
     {
-        let ballots = delivered.ballots(n, self.round);
+        let ballots = acceptance::ballots(store, n, self.round);
         if set::count(ballots, n) < bus::quorum(n) {
             return false;
         }
@@ -66,10 +68,10 @@ impl Position {
     }
 
     // The estimate that the round leaves the board with.
-    fn next_estimate(self, n: u8, delivered: Delivered) -> u16
-        ensures { λ r. ⌜ r ≡ nextEstimate limits n self (heard limits delivered) ⌝ }
+    fn next_estimate(self, n: u8, store: &[u32; store::PLACES]) -> u16
+        ensures { λ r. ⌜ r ≡ nextEstimate limits n self (heardIn limits (now (store .entry))) ⌝ }
     {
-        let carried = ballots::value_with(delivered, n, self.round, bus::overlap(n));
+        let carried = ballots::value_with(store, n, self.round, bus::overlap(n));
         if carried == Log::BLANK {
             return self.estimate;
         }
@@ -77,11 +79,11 @@ impl Position {
     }
 
     // The end of a round in which the board decides nothing.
-    fn onward(self, n: u8, delivered: Delivered) -> Move
-        ensures { λ r. ⌜ r ≡ onward limits n self (heard limits delivered) ⌝ }
+    fn onward(self, n: u8, store: &[u32; store::PLACES]) -> Move
+        ensures { λ r. ⌜ r ≡ onward limits n self (heardIn limits (now (store .entry))) ⌝ }
     {
         let round = self.round;
-        let estimate = self.next_estimate(n, delivered);
+        let estimate = self.next_estimate(n, store);
         if round.0 < Round::LAST {
             return Move::Advances(estimate);
         }
@@ -89,15 +91,15 @@ impl Position {
     }
 
     // Stage C.
-    fn count_move(self, n: u8, delivered: Delivered) -> Move
-        ensures { λ r. ⌜ r ≡ countMove limits n self (heard limits delivered) ⌝ }
+    fn count_move(self, n: u8, store: &[u32; store::PLACES]) -> Move
+        ensures { λ r. ⌜ r ≡ countMove limits n self (heardIn limits (now (store .entry))) ⌝ }
     {
-        if !self.may_count(n, delivered) {
+        if !self.may_count(n, store) {
             return Move::Waits;
         }
-        let chosen = ballots::value_with(delivered, n, self.round, bus::quorum(n));
+        let chosen = ballots::value_with(store, n, self.round, bus::quorum(n));
         if chosen == Log::BLANK {
-            return self.onward(n, delivered);
+            return self.onward(n, store);
         }
         Move::Decides(chosen)
     }
@@ -109,8 +111,8 @@ impl Position {
         let stage = self.stage;
         match stage {
             Stage::Open => self.open_move(n, me),
-            Stage::Vote => self.vote_move(n, delivered),
-            Stage::Count => self.count_move(n, delivered),
+            Stage::Vote => self.vote_move(n, &delivered.entries),
+            Stage::Count => self.count_move(n, &delivered.entries),
         }
     }
 }

@@ -27,8 +27,8 @@ add-board c = omega arith
 board-requires : tie.Need-board-requires Inv-loop μ-loop
 board-requires c κs = search needs
 
-store-requires : tie.Need-store-requires Inv-loop μ-loop
-store-requires c κs =
+stored-requires : tie.Need-stored-requires Inv-loop μ-loop
+stored-requires c κs =
     let l = c .before .before .before in
     let a = l .before .before .args .bench in
     omega (arith, after-put (l .loop .inv .1) (length-parts (tableSize limits) (l .loop .k) _ (λ j. length-table (heardBy limits a j))), put-length (l .loop .inv .1), l .before .before .pre)
@@ -43,7 +43,7 @@ loop-again : tie.Need-loop-again Inv-loop μ-loop
 loop-again c =
     let l = c .before .before .before .before .before .before in
     let a = l .before .before .args .bench in
-    (omega arith, lines-next _ (l .loop .k) (l .loop .inv .1) (rw (c .before .before .before .before .board .ensures) at (c .before .before .store .ensures)))
+    (omega arith, lines-next _ (l .loop .k) (l .loop .inv .1) (rw (c .before .before .before .before .board .ensures) at (c .before .before .stored .ensures)))
 
 same-length : tie.Need-same-length Inv-loop μ-loop
 same-length c = put-length (c .before .loop .inv .1)
@@ -61,7 +61,7 @@ delivered-spec =
     loop-holds
     add-board
     board-requires
-    store-requires
+    stored-requires
     add-k
     loop-less
     loop-again

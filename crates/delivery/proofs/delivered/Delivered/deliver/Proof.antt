@@ -1,16 +1,15 @@
--- `Delivered::deliver` meets its contract: the tests say whether there is such a statement already, and
--- whether the number is a board's. Assumes nothing.
+-- `Delivered::deliver` meets its contract. Assumes nothing.
+use Prim.Native.Nat.{ℕ, _≤_, _*_}
 use borrow.Author.Needs.{needs}
-use borrow.Author.Tests.{not-true, not-false}
 use native.Mathlib.Omega.{arith}
-use mathlib.Core.Path.{_≡_, sym, _∙_}
-use mathlib.Core.Bool.{true}
-use lib.ListN.{length-map}
-use Rattle.signer.proofs.FromOneLaws.{setNth-index, within-high, within-low}
+use mathlib.Core.Path.{_≡_, sym, ap, ap₂, _∙_}
+use mathlib.Core.List.{List}
+use Rattle.signer.specs.FromOne.{setNth}
+use Rattle.signer.proofs.FromOneLaws.{setNth-index}
 use Rattle.delivery.specs.Limits.{limits}
-use Rattle.delivery.specs.Bus.{isBoard}
 use Rattle.delivery.specs.Delivered.{heard}
-use Rattle.delivery.proofs.DeliveredLaws.{deliver-new, deliver-there, deliver-nobody}
+use Rattle.delivery.proofs.PlaceLaws.{place-high}
+use Rattle.delivery.proofs.DeliveredLaws.{deliver-new, deliver-there, stored-nowhere}
 use Rattle.delivery.proofs.delivered.Delivered.deliver.Statement.{statement}
 use Rattle.delivery.proofs.delivered.Delivered.deliver.Tie as tie
 
@@ -18,67 +17,55 @@ entry-requires : tie.Need-entry-requires
 entry-requires c κs = search needs
 
 returns : tie.Need-returns
-returns c =
-    sym
-    (deliver-there
-    limits
-    (c .before .before .args .self)
-    (c .before .before .args .speaker)
-    (c .before .before .args .id .0)
-    (c .before .before .args .value)
-    (λ h. c .if1 .taken (c .before .entry .ensures ∙ h)))
+returns c = sym (deliver-there _ _ _ _ _ (λ h. c .if1 .taken (c .before .entry .ensures ∙ h)))
 
-is-board-requires : tie.Need-is-board-requires
-is-board-requires c κs = search needs
+place-requires : tie.Need-place-requires
+place-requires c κs = search needs
+
+-- nothing stands there yet
+none : (c : tie.Else1) → heard limits (c .before .before .args .self) (c .before .before .args .speaker) (c .before .before .args .id .0) ≡ 0
+none c = sym (c .before .entry .ensures) ∙ c .if1 .left
 
 returns-2 : tie.Need-returns-2
 returns-2 c =
-    let s = c .before .before .before .before in
+    let e = c .before .before in
+    let a = e .before .before .args in
     sym
-    (deliver-nobody
-    limits
-    (s .args .self)
-    (s .args .speaker)
-    (s .args .id .0)
-    (s .args .value)
-    (simp length-map at (s .good .0 .1 .1 .0 .1 .0 .1))
-    (sym (c .before .is-board .ensures) ∙ not-true _ (c .if2 .taken)))
-
-log-requires : tie.Need-log-requires
-log-requires c κs = search needs
+    (deliver-new limits (a .self) (a .speaker) (a .id .0) (a .value) (none e)
+    ∙ stored-nowhere limits (a .self) (a .speaker) (a .id .0) _ (sym (c .before .place .ensures) ∙ c .if2 .taken))
 
 entry-of-requires : tie.Need-entry-of-requires
 entry-of-requires c κs = search needs
 
-with-entry-requires : tie.Need-with-entry-requires
-with-entry-requires c κs = search needs
+-- the place is one of those that there are
+low : (c : tie.Else2) → 1 ≤ c .before .place .result
+low c = omega (arith, c .if2 .left)
 
-board : (c : tie.After-logs)
-    → isBoard limits (c .before .before .before .before .before .before .before .before .args .speaker) ≡ true
-board c =
-    let e = c .before .before .before .before in
-    sym (e .before .is-board .ensures) ∙ not-false _ (e .if2 .left)
+high : (c : tie.Else2) → c .before .place .result ≤ limits .boards * limits .identifiers
+high c =
+    let a = c .before .before .before .before .args in
+    omega (arith, c .before .place .ensures, place-high limits (a .speaker) (a .id .0))
 
-sub-logs : tie.Need-sub-logs
-sub-logs c = within-low (limits .boards) _ (board c)
+sub-entries : tie.Need-sub-entries
+sub-entries c = low (c .before .before)
 
-cast-logs : tie.Need-cast-logs
-cast-logs c = search needs
+mul-entries : tie.Need-mul-entries
+mul-entries c = omega (arith, high (c .before .before))
 
-mul-logs : tie.Need-mul-logs
-mul-logs c = search needs
-
-array-set-from-logs : tie.Need-array-set-from-logs
-array-set-from-logs c =
-    let k = c .before .before .before .before .before .before .before .before .args .speaker in
-    omega (arith, within-low (limits .boards) k (board c), within-high (limits .boards) k (board c))
+array-write-entries : tie.Need-array-write-entries
+array-write-entries c = omega (arith, low (c .before .before), high (c .before .before))
 
 returns-3 : tie.Need-returns-3
 returns-3 c =
-    let e = c .before .before .before .before .before .before in
-    let s = e .before .before in
-    let none : heard limits (s .args .self) (s .args .speaker) (s .args .id .0) ≡ 0 = sym (e .before .entry .ensures) ∙ e .if1 .left in
-    rw (c .before .with-entry .ensures, c .before .before .entry-of .ensures, c .before .before .before .log .ensures, deliver-new limits (s .args .self) (s .args .speaker) (s .args .id .0) (s .args .value) none, setNth-index (s .args .self .logs) (s .args .speaker) _ (within-low (limits .boards) _ (board c)))
+    let p = c .before .before .before .place in
+    let e = c .before .before .before .before in
+    let a = e .before .before .args in
+    sym
+    (deliver-new limits (a .self) (a .speaker) (a .id .0) (a .value) (none e)
+    ∙ ap
+    (λ (es : List ℕ). record { entries = es })
+    (ap₂ (λ (k x : ℕ). setNth (a .self .entries) k x) (sym (p .ensures)) (sym (c .entry-of .ensures))
+    ∙ setNth-index (a .self .entries) (p .result) (c .entry-of .result) (low (c .before .before))))
 
 pub deliver-spec : {M : Type 1} → statement M
 deliver-spec =
@@ -86,13 +73,10 @@ deliver-spec =
     (tie.spec
     entry-requires
     returns
-    is-board-requires
+    place-requires
     returns-2
-    log-requires
     entry-of-requires
-    with-entry-requires
-    sub-logs
-    cast-logs
-    mul-logs
-    array-set-from-logs
+    sub-entries
+    mul-entries
+    array-write-entries
     returns-3)

@@ -3,7 +3,7 @@ use borrow.Author.Needs.{needs}
 use borrow.Author.Tests.{not-true, not-false}
 use mathlib.Core.Path.{_≡_, sym, ap, _∙_}
 use Rattle.delivery.specs.Limits.{limits}
-use Rattle.delivery.specs.Delivered.{heard}
+use Rattle.delivery.specs.Delivered.{heardIn}
 use Rattle.vote.specs.Ballots.{valueWith}
 use Rattle.vote.specs.Rule.{chosen}
 use Rattle.vote.specs.declared.rule.Move.the-variants.{Decides}
@@ -26,11 +26,11 @@ value-with-requires c κs = search needs
 -- the value that was found is the one that q or more ballots bear
 found : (c : tie.After-value-with)
     → let s = c .before .before .before .before in
-    c .value-with .result ≡ chosen limits (s .args .n) (s .args .self) (heard limits (s .args .delivered))
+    c .value-with .result ≡ chosen limits (s .args .n) (s .args .self) (heardIn limits (s .args .store .now))
 found c =
     let s = c .before .before .before .before in
     c .value-with .ensures
-    ∙ ap (valueWith limits (s .args .n) (heard limits (s .args .delivered)) (s .args .self .round .0)) (c .before .quorum .ensures)
+    ∙ ap (valueWith limits (s .args .n) (heardIn limits (s .args .store .now)) (s .args .self .round .0)) (c .before .quorum .ensures)
 
 onward-requires : tie.Need-onward-requires
 onward-requires c κs = search needs

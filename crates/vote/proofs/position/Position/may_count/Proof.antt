@@ -10,7 +10,7 @@ use Rattle.delivery.specs.Counting.{countIn}
 use Rattle.delivery.specs.Limits.{limits}
 use Rattle.delivery.specs.Bus.{quorum}
 use Rattle.delivery.specs.Sets.{inSet, bits}
-use Rattle.delivery.specs.Delivered.{heard}
+use Rattle.delivery.specs.Delivered.{heardIn}
 use Rattle.delivery.specs.Acceptance.{acceptsSome}
 use Rattle.delivery.proofs.CountLaws.{count-cong, every-counted}
 use Rattle.delivery.proofs.SetLaws.{count-set, in-either, in-setOf-within}
@@ -30,7 +30,7 @@ quorum-requires c κs = search needs
 -- how many boards have an accepted ballot
 counted : (c : tie.After-count)
     → let s = c .before .before in
-    c .count .result ≡ countIn (s .args .n) (acceptsSome limits (s .args .n) (heard limits (s .args .delivered)) (s .args .self .round .0))
+    c .count .result ≡ countIn (s .args .n) (acceptsSome limits (s .args .n) (heardIn limits (s .args .store .now)) (s .args .self .round .0))
 counted c =
     let n = c .before .before .args .n in
     c .count .ensures ∙ ap (λ (m : ℕ). countIn n (inSet m)) (c .before .ballots .ensures) ∙ count-set n n _ (omega arith)
@@ -39,7 +39,7 @@ returns : tie.Need-returns
 returns c =
     let q = c .before in
     let s = q .before .before .before in
-    let l : countIn (s .args .n) (acceptsSome limits (s .args .n) (heard limits (s .args .delivered)) (s .args .self .round .0)) < quorum (s .args .n) =
+    let l : countIn (s .args .n) (acceptsSome limits (s .args .n) (heardIn limits (s .args .store .now)) (s .args .self .round .0)) < quorum (s .args .n) =
     omega (arith, counted (q .before), q .quorum .ensures, c .if1 .taken) in
     sym (count-few _ _ _ _ l)
 
@@ -56,7 +56,7 @@ returns-2 c =
     let b = q .before .before in
     let s = b .before in
     let n = s .args .n in
-    let accepted : ℕ → Bool = acceptsSome limits n (heard limits (s .args .delivered)) (s .args .self .round .0) in
+    let accepted : ℕ → Bool = acceptsSome limits n (heardIn limits (s .args .store .now)) (s .args .self .round .0) in
     let suspected = s .args .self .suspected in
     let l : quorum n ≤ countIn n accepted = omega (arith, counted (q .before), q .quorum .ensures, u .before .if1 .left) in
     let x : b .ballots .result < 2 ^ bits = omega arith in
@@ -73,7 +73,7 @@ returns-2 c =
     ∙ ap (λ (t : Bool). t or inSet suspected k) (ap (λ (m : ℕ). inSet m k) (b .ballots .ensures) ∙ in-setOf-within n accepted k i h)) in
     ap (λ (m : ℕ). eqb m n) e
     ∙ sym (every-counted n (λ (k : ℕ). accepted k or inSet suspected k))
-    ∙ sym (count-enough limits n (s .args .self) (heard limits (s .args .delivered)) l)
+    ∙ sym (count-enough limits n (s .args .self) (heardIn limits (s .args .store .now)) l)
 
 pub may-count-spec : {M : Type 1} → statement M
 may-count-spec =

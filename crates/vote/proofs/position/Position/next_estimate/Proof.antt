@@ -2,7 +2,7 @@
 use borrow.Author.Needs.{needs}
 use mathlib.Core.Path.{_≡_, sym, ap, _∙_}
 use Rattle.delivery.specs.Limits.{limits}
-use Rattle.delivery.specs.Delivered.{heard}
+use Rattle.delivery.specs.Delivered.{heardIn}
 use Rattle.vote.specs.Ballots.{valueWith}
 use Rattle.vote.specs.Rule.{carried}
 use Rattle.vote.proofs.RuleLaws.{estimate-kept, estimate-taken}
@@ -18,11 +18,11 @@ value-with-requires c κs = search needs
 -- the value that was found is the one that e or more ballots bear
 found : (c : tie.After-value-with)
     → let s = c .before .before in
-    c .value-with .result ≡ carried limits (s .args .n) (s .args .self) (heard limits (s .args .delivered))
+    c .value-with .result ≡ carried limits (s .args .n) (s .args .self) (heardIn limits (s .args .store .now))
 found c =
     let s = c .before .before in
     c .value-with .ensures
-    ∙ ap (valueWith limits (s .args .n) (heard limits (s .args .delivered)) (s .args .self .round .0)) (c .before .overlap .ensures)
+    ∙ ap (valueWith limits (s .args .n) (heardIn limits (s .args .store .now)) (s .args .self .round .0)) (c .before .overlap .ensures)
 
 returns : tie.Need-returns
 returns c = sym (estimate-kept _ _ _ _ (sym (found (c .before)) ∙ c .if1 .taken))

@@ -27,10 +27,10 @@ returns : tie.Need-returns
 returns c = c .open-move .ensures ∙ sym (rule-open _ _ _ _ _ (c .before .enum-told .given .1))
 
 returns-2 : tie.Need-returns-2
-returns-2 c = c .vote-move .ensures ∙ sym (rule-vote _ _ _ _ _ (c .before .enum-told2 .given .1))
+returns-2 c = c .vote-move .ensures ∙ sym (rule-vote _ _ _ _ _ (c .before .before .before .enum-told2 .given .1))
 
 returns-3 : tie.Need-returns-3
-returns-3 c = c .count-move .ensures ∙ sym (rule-count _ _ _ _ _ (c .before .enum-told3 .given .1))
+returns-3 c = c .count-move .ensures ∙ sym (rule-count _ _ _ _ _ (c .before .before .before .enum-told3 .given .1))
 
 pub rule-spec : {M : Type 1} → statement M
 rule-spec =

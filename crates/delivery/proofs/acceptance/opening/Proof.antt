@@ -1,7 +1,7 @@
--- `Delivered::opening` meets its contract. Assumes nothing.
+-- `opening` meets its contract. Assumes nothing.
 use borrow.Author.Needs.{needs}
-use Rattle.delivery.proofs.delivered.Delivered.opening.Statement.{statement}
-use Rattle.delivery.proofs.delivered.Delivered.opening.Tie as tie
+use Rattle.delivery.proofs.acceptance.opening.Statement.{statement}
+use Rattle.delivery.proofs.acceptance.opening.Tie as tie
 
 coordinator-requires : tie.Need-coordinator-requires
 coordinator-requires c κs = search needs

@@ -1,16 +1,16 @@
--- `Delivered::accepts_ballot` meets its contract. Assumes nothing.
+-- `accepts_ballot` meets its contract. Assumes nothing.
 use borrow.Author.Needs.{needs}
 use mathlib.Core.Path.{_≡_, sym, ap, _∙_}
 use mathlib.Core.Logic.{inl}
 use Rattle.signer.specs.Log.{entryOf}
 use Rattle.delivery.specs.Limits.{limits}
 use Rattle.delivery.specs.Rounds.{identifierOf}
-use Rattle.delivery.specs.Delivered.{heard}
+use Rattle.delivery.specs.Delivered.{heardIn}
 use Rattle.delivery.specs.declared.round.Phase.the-variants.{Ballot}
 use Rattle.delivery.proofs.OneRoundLaws.{reads-bears}
 use Rattle.delivery.proofs.AllRoundsLaws.{ballot-sent, ballot-unsent, ballot-value}
-use Rattle.delivery.proofs.delivered.Delivered.accepts_ballot.Statement.{statement}
-use Rattle.delivery.proofs.delivered.Delivered.accepts_ballot.Tie as tie
+use Rattle.delivery.proofs.acceptance.accepts_ballot.Statement.{statement}
+use Rattle.delivery.proofs.acceptance.accepts_ballot.Tie as tie
 
 identifier-requires : tie.Need-identifier-requires
 identifier-requires c κs = search needs
@@ -35,17 +35,17 @@ returns c =
     (λ e.
     c .if1 .taken
     (c .before .before .entry .ensures
-    ∙ ap (heard limits (s .args .self) (s .args .speaker)) (c .before .before .before .identifier .ensures)
+    ∙ ap (heardIn limits (s .args .store .now) (s .args .speaker)) (c .before .before .before .identifier .ensures)
     ∙ e
     ∙ sym (c .before .entry-of .ensures))))
 
 -- the ballot was sent
-sent : (c : tie.Else1) → heard limits (c .before .before .before .before .args .self) (c .before .before .before .before .args .speaker) (identifierOf limits Ballot (c .before .before .before .before .args .round .0)) ≡ entryOf (c .before .before .before .before .args .value)
+sent : (c : tie.Else1) → heardIn limits (c .before .before .before .before .args .store .now) (c .before .before .before .before .args .speaker) (identifierOf limits Ballot (c .before .before .before .before .args .round .0)) ≡ entryOf (c .before .before .before .before .args .value)
 sent c =
     let s = c .before .before .before .before in
     sym
     (c .before .before .entry .ensures
-    ∙ ap (heard limits (s .args .self) (s .args .speaker)) (c .before .before .before .identifier .ensures))
+    ∙ ap (heardIn limits (s .args .store .now) (s .args .speaker)) (c .before .before .before .identifier .ensures))
     ∙ c .if1 .left
     ∙ c .before .entry-of .ensures
 

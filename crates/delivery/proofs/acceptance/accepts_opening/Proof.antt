@@ -1,10 +1,10 @@
--- `Delivered::accepts_opening` meets its contract. Assumes nothing.
+-- `accepts_opening` meets its contract. Assumes nothing.
 use borrow.Author.Needs.{needs}
 use mathlib.Core.Path.{sym, _∙_}
 use Rattle.delivery.proofs.OneRoundLaws.{says-entry}
 use Rattle.delivery.proofs.AllRoundsLaws.{opening-sent, opening-unsent}
-use Rattle.delivery.proofs.delivered.Delivered.accepts_opening.Statement.{statement}
-use Rattle.delivery.proofs.delivered.Delivered.accepts_opening.Tie as tie
+use Rattle.delivery.proofs.acceptance.accepts_opening.Statement.{statement}
+use Rattle.delivery.proofs.acceptance.accepts_opening.Tie as tie
 
 opening-requires : tie.Need-opening-requires
 opening-requires c κs = search needs

@@ -1,21 +1,20 @@
--- `Delivered::ballots` meets its contract. Assumes nothing.
+-- `ballots` meets its contract. Assumes nothing.
 use Prim.Native.Nat.{ℕ}
 use borrow.Author.Needs.{needs}
 use borrow.Author.Tests.{not-true, not-false}
 use native.Mathlib.Omega.{arith}
 use mathlib.Core.Path.{_≡_, sym, ap₂, _∙_}
 use mathlib.Core.Bool.{true}
-use lib.ListN.{length, length-map}
 use Rattle.delivery.specs.Limits.{limits}
 use Rattle.delivery.specs.Sets.{setOf, union}
-use Rattle.delivery.specs.Delivered.{heard}
+use Rattle.delivery.specs.Delivered.{heardIn}
 use Rattle.delivery.specs.Acceptance.{says, bears, allowed}
 use Rattle.delivery.proofs.SetLaws.{set-cong, union-sets}
 use Rattle.delivery.proofs.OneRoundLaws.{says-entry}
 use Rattle.delivery.proofs.AllRoundsLaws.{some-unopened, some-opened-or}
 use Rattle.delivery.proofs.PassLaws.{bearing-fits}
-use Rattle.delivery.proofs.delivered.Delivered.ballots.Statement.{statement}
-use Rattle.delivery.proofs.delivered.Delivered.ballots.Tie as tie
+use Rattle.delivery.proofs.acceptance.ballots.Statement.{statement}
+use Rattle.delivery.proofs.acceptance.ballots.Tie as tie
 
 entry-of-requires : tie.Need-entry-of-requires
 entry-of-requires c κs = search needs
@@ -32,11 +31,11 @@ allows-requires c κs = search needs
 -- the boards whose ballots are blank
 blank : (c : tie.After-bearing)
     → c .bearing .result
-    ≡ setOf (c .before .before .args .n) (bears limits (heard limits (c .before .before .args .self)) (c .before .before .args .round .0) 0)
+    ≡ setOf (c .before .before .args .n) (bears limits (heardIn limits (c .before .before .args .store .now)) (c .before .before .args .round .0) 0)
 blank c =
     rw
     (c .bearing .ensures, c .before .entry-of .ensures)
-    (set-cong _ _ _ (λ s l h. says-entry 0 (λ (w : ℕ). bears limits (heard limits (c .before .before .args .self)) (c .before .before .args .round .0) w s)))
+    (set-cong _ _ _ (λ s l h. says-entry 0 (λ (w : ℕ). bears limits (heardIn limits (c .before .before .args .store .now)) (c .before .before .args .round .0) w s)))
 
 returns : tie.Need-returns
 returns c =
@@ -60,15 +59,14 @@ returns-2 c =
     let a = c .before .before .before in
     let o = a .before in
     let s = o .before .before .before in
-    let h = heard limits (s .args .self) in
+    let h = heardIn limits (s .args .store .now) in
     let n = s .args .n in
     let r = s .args .round .0 in
-    let size : length (s .args .self .logs) ≡ limits .boards = simp length-map at (s .good .0 .1 .1 .0 .1 .0 .1) in
     let may : says (o .opening .result) (allowed limits n h r) ≡ true =
     sym (a .allows .ensures) ∙ not-false _ (c .before .before .if1 .left) in
     c .union .ensures
     ∙ ap₂ union (blank (o .before)) (c .before .bearing2 .ensures)
-    ∙ union-sets n _ _ (bearing-fits limits (s .args .self) r size n (o .opening .result) (omega arith))
+    ∙ union-sets n _ _ (bearing-fits limits (s .args .store .now) r n (o .opening .result) (omega arith))
     ∙ sym (set-cong n _ _ (λ k l u. rw (o .opening .ensures) (some-opened-or limits n h r k (rw (o .opening .ensures) at may))))
 
 pub ballots-spec : {M : Type 1} → statement M

@@ -1,17 +1,17 @@
--- `Delivered::ballots_for` meets its contract. Assumes nothing.
+-- `ballots_for` meets its contract. Assumes nothing.
 use borrow.Author.Needs.{needs}
 use Prim.Native.Nat.{ℕ}
 use mathlib.Core.Path.{_≡_, sym, _∙_}
 use mathlib.Core.Logic.{inl, inr}
 use Rattle.delivery.specs.Limits.{limits}
 use Rattle.delivery.specs.Sets.{setOf}
-use Rattle.delivery.specs.Delivered.{heard}
+use Rattle.delivery.specs.Delivered.{heardIn}
 use Rattle.delivery.specs.Acceptance.{bears}
 use Rattle.delivery.proofs.SetLaws.{set-cong, set-none}
 use Rattle.delivery.proofs.OneRoundLaws.{says-entry}
 use Rattle.delivery.proofs.AllRoundsLaws.{ballot-sent, ballot-unopened}
-use Rattle.delivery.proofs.delivered.Delivered.ballots_for.Statement.{statement}
-use Rattle.delivery.proofs.delivered.Delivered.ballots_for.Tie as tie
+use Rattle.delivery.proofs.acceptance.ballots_for.Statement.{statement}
+use Rattle.delivery.proofs.acceptance.ballots_for.Tie as tie
 
 entry-of-requires : tie.Need-entry-of-requires
 entry-of-requires c κs = search needs
@@ -20,11 +20,11 @@ bearing-requires : tie.Need-bearing-requires
 bearing-requires c κs = search needs
 
 -- the boards whose ballots bear the value
-bearing : (c : tie.After-bearing) → c .bearing .result ≡ setOf (c .before .before .args .n) (bears limits (heard limits (c .before .before .args .self)) (c .before .before .args .round .0) (c .before .before .args .value))
+bearing : (c : tie.After-bearing) → c .bearing .result ≡ setOf (c .before .before .args .n) (bears limits (heardIn limits (c .before .before .args .store .now)) (c .before .before .args .round .0) (c .before .before .args .value))
 bearing c =
     rw
     (c .bearing .ensures, c .before .entry-of .ensures)
-    (set-cong _ _ _ (λ s l h. says-entry _ (λ (w : ℕ). bears limits (heard limits (c .before .before .args .self)) (c .before .before .args .round .0) w s)))
+    (set-cong _ _ _ (λ s l h. says-entry _ (λ (w : ℕ). bears limits (heardIn limits (c .before .before .args .store .now)) (c .before .before .args .round .0) w s)))
 
 returns : tie.Need-returns
 returns c = bearing (c .before) ∙ sym (set-cong _ _ _ (λ s l h. ballot-sent _ _ _ _ s _ (inl (c .if1 .taken))))

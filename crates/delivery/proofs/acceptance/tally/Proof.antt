@@ -1,4 +1,4 @@
--- `Delivered::tally` meets its contract. Assumes nothing.
+-- `tally` meets its contract. Assumes nothing.
 use Prim.Native.Nat.{ℕ}
 use borrow.Author.Needs.{needs}
 use native.Mathlib.Omega.{arith}
@@ -6,8 +6,8 @@ use mathlib.Core.Path.{ap, _∙_}
 use Rattle.delivery.specs.Counting.{countIn}
 use Rattle.delivery.specs.Sets.{inSet}
 use Rattle.delivery.proofs.SetLaws.{count-set}
-use Rattle.delivery.proofs.delivered.Delivered.tally.Statement.{statement}
-use Rattle.delivery.proofs.delivered.Delivered.tally.Tie as tie
+use Rattle.delivery.proofs.acceptance.tally.Statement.{statement}
+use Rattle.delivery.proofs.acceptance.tally.Tie as tie
 
 bearing-requires : tie.Need-bearing-requires
 bearing-requires c κs = search needs

@@ -1,4 +1,4 @@
--- `ballots::tally` meets its contract. Assumes nothing.
+-- `Board::tally` meets its contract. Assumes nothing.
 use Prim.Native.Nat.{ℕ}
 use borrow.Author.Needs.{needs}
 use native.Mathlib.Omega.{arith}
@@ -7,8 +7,8 @@ use Rattle.delivery.specs.Counting.{countIn}
 use Rattle.delivery.specs.Sets.{inSet}
 use Rattle.delivery.proofs.SetLaws.{count-set}
 use Rattle.vote.specs.Ballots.{tally}
-use Rattle.vote.proofs.ballots.tally.Statement.{statement}
-use Rattle.vote.proofs.ballots.tally.Tie as tie
+use Rattle.vote.proofs.board.Board.tally.Statement.{statement}
+use Rattle.vote.proofs.board.Board.tally.Tie as tie
 
 ballots-for-requires : tie.Need-ballots-for-requires
 ballots-for-requires c κs = search needs

@@ -1,4 +1,4 @@
--- `Delivered::allows` meets its contract. The loop's invariant: the allowance is what is allowed in round r.
+-- `allows` meets its contract. The loop's invariant: the allowance is what is allowed in round r.
 -- Assumes nothing.
 use Prim.Native.Nat.{ℕ, suc, _-_, _≤_}
 use borrow.Author.Needs.{needs}
@@ -6,20 +6,20 @@ use native.Mathlib.Omega.{arith}
 use mathlib.Core.Path.{_≡_, sym, _∙_}
 use mathlib.Core.Logic.{inl}
 use Rattle.delivery.specs.Limits.{limits}
-use Rattle.delivery.specs.Delivered.{heard}
+use Rattle.delivery.specs.Delivered.{heardIn}
 use Rattle.delivery.specs.Acceptance.{allowed}
 use Rattle.delivery.proofs.OneRoundLaws.{value-says}
 use Rattle.delivery.proofs.AllRoundsLaws.{allowed-none, allowed-blank, says-low, says-none}
 use Rattle.delivery.proofs.PassLaws.{among, says-among, only-among, counted-next, nobody-allowed, every-first, next-allowed, says-allowed}
-use Rattle.delivery.proofs.delivered.Delivered.allows.Statement.{statement}
-use Rattle.delivery.proofs.delivered.Delivered.allows.Tie as tie
+use Rattle.delivery.proofs.acceptance.allows.Statement.{statement}
+use Rattle.delivery.proofs.acceptance.allows.Tie as tie
 
 abbrev Inv-loop : tie.InvT-loop
-Inv-loop self n entry last q e allowance₀ r₀ allowance r =
-    (1 ≤ r) × (r ≤ last) × ((w : ℕ) → among allowance w ≡ allowed limits n (heard limits self) r w)
+Inv-loop store n entry last q e allowance₀ r₀ allowance r =
+    (1 ≤ r) × (r ≤ last) × ((w : ℕ) → among allowance w ≡ allowed limits n (heardIn limits store) r w)
 
 abbrev μ-loop : tie.MeasureT-loop
-μ-loop self n entry last q e allowance₀ r₀ allowance r = last - r
+μ-loop store n entry last q e allowance₀ r₀ allowance r = last - r
 
 returns : tie.Need-returns Inv-loop μ-loop
 returns c = rw (c .if1 .taken) (sym (says-none _ _ (allowed-none _ _ _)))
@@ -78,7 +78,7 @@ loop-again c =
       next-allowed
           limits
           (a .n)
-          (heard limits (a .self))
+          (heardIn limits (a .store .now))
           (l .loop .allowance)
           (c .settled .result)
           (l .loop .r)
@@ -87,7 +87,7 @@ loop-again c =
           (counted-next
           limits
           (a .n)
-          (heard limits (a .self))
+          (heardIn limits (a .store .now))
           (l .loop .allowance)
           (l .loop .r)
           (o .opened .result)
