@@ -27,13 +27,13 @@ use Rattle.vote.specs.declared.statement.Statement.{Statement}
 use Rattle.vote.proofs.StatusLaws.{going-voting}
 use Rattle.vote.proofs.BallotLaws.{tally-won}
 use Rattle.vote.proofs.BoardLaws.{Convinced}
-use Rattle.bench.specs.Events.{proposing, turning, delivering, announcing, suspecting, trusting, signing, usesOther}
+use Rattle.bench.specs.Events.{proposing, turning, delivering, announcing, suspecting, trusting, signing}
 use Rattle.bench.specs.Benches.{isSound, boardAt, signerAt, heardBy, signedBy}
 use Rattle.bench.specs.Answers.{answerNumber, isAccepted}
 use Rattle.bench.specs.Table.{kindRow, boardsRow, wrongId, wrongValue, fieldsRow, markRow, startRow, endRow, signedRow, lastRow, deliveredRow, ballotsRow, refuses, turnRow, firstOf, checkOf}
 use Rattle.bench.specs.Effects.{withBoardAt, withSignature, afterTurn, afterHearing, effectOf}
 use Rattle.bench.proofs.AnswerLaws.{start-refused, end-refused, wait-refused}
-use Rattle.bench.proofs.TableLaws.{first-takes, first-skips}
+use Rattle.bench.proofs.TableLaws.{delivers-other, boards-a, boards-b, first-takes, first-skips}
 use Rattle.bench.proofs.EffectLaws.{
   effect-proposing,
   effect-turning,
@@ -168,8 +168,7 @@ module _ (L : Limits) (c : Bench) (e : Event) where
         kind-cases (e .kind) (within-low signing (e .kind) w) (within-high signing (e .kind) w)
 
     a-within : isWithin (c .n) (e .a) ≡ true
-    unfolding boardsRow
-    a-within = neg-false _ (or-false-left _ _ (p .boards))
+    a-within = boards-a c e (p .boards)
 
     -- where the event is no signature, its board is sound
     seated : is signing ≡ false → Seated
@@ -208,9 +207,8 @@ module _ (L : Limits) (c : Bench) (e : Event) where
     identified k = neg-false _ (and-under _ _ k (or-false-left _ _ (or-false-left _ _ (or-false-right _ _ (p .fields)))))
 
     -- a statement that is delivered is of a board, which has signed it, and was not delivered before
-    b-within : usesOther (e .kind) ≡ true → isWithin (c .n) (e .b) ≡ true
-    unfolding boardsRow
-    b-within k = neg-false _ (and-under _ _ k (or-false-right _ _ (p .boards)))
+    b-within : e .kind ≡ delivering → isWithin (c .n) (e .b) ≡ true
+    b-within k = boards-b c e (p .boards) (delivers-other (e .kind) k)
 
     was-signed : is delivering ≡ true → signedBy L c (e .b) (e .id) ≡ entryOf (e .value)
     unfolding signedRow
@@ -241,10 +239,6 @@ module _ (L : Limits) (c : Bench) (e : Event) where
     unfolding markRow
     faulty k = and-under _ _ k (or-false-left _ _ (p .mark))
 
-    has-speaker : e .kind ≡ delivering → usesOther (e .kind) ≡ true
-    unfolding usesOther
-    has-speaker k = or-left _ _ (kind-is delivering k)
-
     legal-by : Kind (e .kind) → Legal (effectOf L c e)
     legal-by (is-proposing k) =
         legal-proposal
@@ -264,7 +258,7 @@ module _ (L : Limits) (c : Bench) (e : Event) where
         legal-delivery
         k
         (seated (kind-is signing k))
-        (b-within (has-speaker k))
+        (b-within k)
         (identified (or-left _ _ (kind-is delivering k)))
         (was-signed (kind-is delivering k))
         (not-heard (kind-is delivering k))

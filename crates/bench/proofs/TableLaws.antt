@@ -5,11 +5,15 @@ use mathlib.Core.Path.{_≡_, refl, ap, _∙_}
 use mathlib.Core.Bool.{Bool, true, false, not}
 use mathlib.Core.List.{List, [], _∷_}
 use lib.Dec.{eqb}
+use borrow.Author.Tests.{eq-eqb}
+use Rattle.signer.specs.FromOne.{isWithin}
 use Rattle.signer.proofs.ChoiceLaws.{if-true, if-false}
 use Rattle.delivery.specs.Tests.{_and_, _or_, neg}
-use Rattle.delivery.proofs.TestLaws.{and-yes-left, and-no-left, or-no, or-no-left, or-no-right}
+use Rattle.delivery.proofs.TestLaws.{and-yes-left, and-no-left, and-under, or-left, or-right, or-no, or-no-left, or-no-right, or-false-left, or-false-right, neg-false}
 use Rattle.bench.specs.Events.{delivering, announcing, suspecting, trusting, signing, usesOther, usesId}
-use Rattle.bench.specs.Table.{firstOf}
+use Rattle.bench.specs.Table.{boardsRow, firstOf}
+use Rattle.bench.specs.declared.bench.Bench.{Bench}
+use Rattle.bench.specs.declared.event.Event.{Event}
 use Rattle.bench.specs.declared.answer.Answer.{Answer}
 use Rattle.bench.specs.declared.answer.Answer.the-variants.{Accepted}
 
@@ -44,6 +48,25 @@ other-rest k h = or-no-left _ _ h
 pub id-rest : (k : ℕ) → eqb k announcing ≡ false → usesId k ≡ (eqb k delivering or eqb k signing)
 unfolding usesId
 id-rest k h = ap (λ (b : Bool). eqb k delivering or b) (or-no-left _ _ h)
+
+-- a delivery and an announcement name another board
+pub delivers-other : (k : ℕ) → k ≡ delivering → usesOther k ≡ true
+unfolding usesOther
+delivers-other k h = or-left _ _ (eq-eqb k delivering h)
+
+pub announces-other : (k : ℕ) → k ≡ announcing → usesOther k ≡ true
+unfolding usesOther
+announces-other k h = or-right _ _ (or-left _ _ (eq-eqb k announcing h))
+
+-- where row 11 does not apply, a is a board of the bench, and so is b if it is used
+module _ (c : Bench) (e : Event) (h : boardsRow c e ≡ false) where
+  pub boards-a : isWithin (c .n) (e .a) ≡ true
+  unfolding boardsRow
+  boards-a = neg-false _ (or-false-left _ _ h)
+
+  pub boards-b : usesOther (e .kind) ≡ true → isWithin (c .n) (e .b) ≡ true
+  unfolding boardsRow
+  boards-b k = neg-false _ (and-under _ _ k (or-false-right _ _ h))
 
 -- a row that applies is the first
 pub first-takes : (b : Bool) (a : Answer) (rows : List (Bool × Answer))

@@ -8,6 +8,7 @@ pub mod Setups
 pub mod Answers
 pub mod Table
 pub mod Effects
+pub mod Parts
 pub mod Runs
 pub mod Shows
 pub mod Examples

@@ -2,6 +2,7 @@ ghost use mathlib.Core.Path.{_≡_};
 ghost use Rattle.delivery.specs.Limits.{limits};
 ghost use Rattle.delivery.specs.Owed.{receivers};
 ghost use Rattle.bench.specs.Benches.{isSound, boardAt, signerAt, heardBy, signedBy, holders};
+ghost use Rattle.bench.specs.declared.bench.Bench.{Bench};
 use delivery::Delivered;
 use delivery::Owed;
 use delivery::set;
@@ -72,18 +73,31 @@ impl Bench {
         self.owed.receivers(speaker, id)
     }
 
-    // The boards that have delivered a speaker's statement under an identifier.
-    pub fn holders(self, speaker: u8, id: Identifier) -> u16
-        ensures { λ r. ⌜ r ≡ holders limits self speaker (id .0) ⌝ }
+    // Of some boards, those that have delivered a speaker's statement under an identifier.
+    pub(crate) fn holders_in(
+        boards: [Board; Bench::BOARDS as usize],
+        speaker: u8,
+        id: Identifier,
+    ) -> u16
+        ensures { λ r. ⌜ ((c : Bench) → c .boards ≡ boards → r ≡ holders limits c speaker (id .0)) ⌝ }
     {
         let mut have = 0u16;
         let mut k = 0u8;
         while k < Bench::BOARDS {
-            if self.delivered(k + 1, speaker, id) != 0 {
+            let board = boards[k as usize];
+            if board.delivered.entry(speaker, id) != 0 {
                 have = set::with(have, k + 1);
             }
             k += 1;
         }
         have
+    }
+
+    // The boards that have delivered a speaker's statement under an identifier.
+    pub fn holders(self, speaker: u8, id: Identifier) -> u16
+        ensures { λ r. ⌜ r ≡ holders limits self speaker (id .0) ⌝ }
+    {
+        let boards = self.boards;
+        Bench::holders_in(boards, speaker, id)
     }
 }

@@ -5,6 +5,7 @@ mod bench;
 mod effect;
 mod event;
 mod fresh;
+mod parts;
 mod play;
 mod show;
 mod table;

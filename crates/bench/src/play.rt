@@ -1,7 +1,9 @@
-ghost use Prim.Native.Nat.{_≤_, _*_};
+ghost use Prim.Native.Nat.{_-_, _*_, _≤_, _<_};
 ghost use mathlib.Core.Path.{_≡_};
+ghost use mathlib.Core.Bool.{true};
 ghost use lib.ListN.{length};
 ghost use Rattle.delivery.specs.Limits.{limits};
+ghost use Rattle.delivery.specs.Bus.{isBoard};
 ghost use Rattle.bench.specs.Events.{eventBytes};
 ghost use Rattle.bench.specs.Runs.{eventsIn, after, answersTo, written, endingOf, playedOf, answersAfter};
 ghost use Rattle.bench.specs.Claim.{Agreement};
@@ -9,6 +11,7 @@ ghost use Rattle.bench.specs.Demands.{playedHistory};
 use crate::answer::FreshAnswer;
 use crate::bench::Bench;
 use crate::event::Event;
+use delivery::Delivered;
 
 // How playing a list went: it was played, or it was not, since its bytes are not whole events, or since there is no
 // room for its answers.
@@ -39,25 +42,56 @@ fn how_it_ends(bytes: usize, room: usize) -> Ending
     Ending::Played
 }
 
+// Where board k stands in a list of boards; the first place where the number is no board's.
+fn seat(k: u8) -> usize
+    ensures { λ r. ⌜ (r < limits .boards) × (isBoard limits k ≡ true → r ≡ k - 1) ⌝ }
+{
+    if !Delivered::is_board(k) {
+        return 0;
+    }
+    (k - 1) as usize
+}
+
 impl Bench {
     // Plays so many events, and writes their answers.
     fn run(self, count: usize, events: &[u8], answers: &mut [u8]) -> Bench
-        requires { ⌜ (eventBytes * count ≤ length (now events)) × (count ≤ length (now answers)) ⌝ }
+        requires { ⌜ (eventBytes * count ≤ length (now events)) × (count ≤ length (now answers)) × (self .n ≤ limits .boards) ⌝ }
         ensures { λ r. ⌜ (r ≡ after limits self (eventsIn count (now (events .entry)))) × (now (answers .exit) ≡ written (answersTo limits self (eventsIn count (now (events .entry)))) (now (answers .entry))) ⌝ }
     {
-        let mut bench = self;
+        let n = self.n;
+        let sound = self.sound;
+        let mut boards = self.boards;
+        let mut signers = self.signers;
+        let mut owed = self.owed;
         let mut at = 0usize;
         let mut k = 0usize;
         while k < count {
             let event = Event::read(&events[at..]);
-            let outcome = bench.event(event);
-            bench = outcome.bench;
-            let answer = outcome.answer;
+            let i = seat(event.a);
+            let j = seat(event.b);
+            let a = boards[i];
+            let b = boards[j];
+            let own = signers[i];
+            let other = signers[j];
+            let effect = event.step(a, own, event.rest(n, sound, b, other));
+            let said = effect.said;
+            owed = event.owed(said, owed, sound, boards);
+            let board = effect.board;
+            boards[i] = board;
+            let signer = effect.signer;
+            signers[i] = signer;
+            let answer = effect.answer;
             answers[k] = answer.number();
             at += Event::BYTES;
             k += 1;
         }
-        bench
+        Bench {
+            n,
+            sound,
+            boards,
+            signers,
+            owed,
+        }
     }
 
     // Makes a fresh bench and plays a list of events into it, the bytes of each as they stand in a schedule. Each

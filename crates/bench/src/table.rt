@@ -1,17 +1,25 @@
 ghost use mathlib.Core.Path.{_≡_};
 ghost use Rattle.delivery.specs.Limits.{limits};
-ghost use Rattle.bench.specs.Events.{usesOther, usesId, usesValue};
-ghost use Rattle.bench.specs.Table.{kindRow, boardsRow, wrongOther, wrongId, wrongValue, fieldsRow, markRow, pairRow, startRow, endRow, signedRow, lastRow, deliveredRow, announcerRow, ballotsRow, isWaiting, refuses, turnRow, stateRows, firstOf, checkOf};
+ghost use Rattle.bench.specs.Benches.{boardAt, signerAt, signedBy};
+ghost use Rattle.bench.specs.Events.{delivering, announcing, usesOther, usesId, usesValue};
+ghost use mathlib.Core.Bool.{false};
+ghost use Rattle.bench.specs.declared.bench.Bench.{Bench};
+ghost use Rattle.bench.specs.Parts.{Has, thenLast, Checks};
+ghost use Rattle.delivery.specs.Tests.{_or_};
+ghost use Rattle.vote.specs.Boards.{hasDecided};
+ghost use Rattle.bench.specs.Table.{kindRow, boardsRow, wrongOther, wrongId, wrongValue, fieldsRow, markRow, pairRow, startRow, endRow, signedRow, lastRow, deliveredRow, announcerRow, ballotsRow, isWaiting, refuses, turnRow, stateRows, firstOf};
 use crate::answer::Answer;
-use crate::bench::Bench;
 use crate::event::Event;
+use crate::parts::Rest;
 use delivery::Round;
 use delivery::bus;
+use delivery::set;
 use signer::Identifier;
 use signer::Log;
 use signer::Signer;
 use signer::from_one;
 use vote::Answer as TurnAnswer;
+use vote::Board;
 use vote::Said;
 
 // What the table asks of an event alone.
@@ -144,174 +152,165 @@ fn refuses(signer: Signer, said: Said) -> bool
     }
 }
 
-// What it asks of the bench too.
-impl Bench {
-    fn boards_row(self, e: Event) -> bool
-        ensures { λ r. ⌜ r ≡ boardsRow self e ⌝ }
+// Whether what came of a turn is answered by the last row: the board waits, or its signer refuses what it says.
+pub(crate) fn must_wait(answer: TurnAnswer, said: Said, own: Signer) -> bool
+    ensures { λ r. ⌜ r ≡ (isWaiting answer or refuses limits own said) ⌝ }
+{
+    if is_waiting(answer) {
+        return true;
+    }
+    refuses(own, said)
+}
+
+// What it asks of the parts of a bench that the event looks at.
+impl Event {
+    fn boards_row(self, n: u8) -> bool
+        ensures { λ r. ⌜ ((c : Bench) → c .n ≡ n → r ≡ boardsRow c self) ⌝ }
     {
-        if !from_one::within(e.a, self.n) {
+        if !from_one::within(self.a, n) {
             return true;
         }
-        if !e.uses_other() {
+        if !self.uses_other() {
             return false;
         }
-        !from_one::within(e.b, self.n)
+        !from_one::within(self.b, n)
     }
 
-    fn mark_row(self, e: Event) -> bool
-        ensures { λ r. ⌜ r ≡ markRow self e ⌝ }
+    fn mark_row(self, sound: u16) -> bool
+        ensures { λ r. ⌜ ((c : Bench) → c .sound ≡ sound → r ≡ markRow c self) ⌝ }
     {
-        if e.kind == Event::SIGN {
-            return self.is_sound(e.a);
+        if self.kind == Event::SIGN {
+            return set::has(sound, self.a);
         }
-        !self.is_sound(e.a)
+        !set::has(sound, self.a)
     }
 
-    fn start_row(self, e: Event) -> bool
-        ensures { λ r. ⌜ r ≡ startRow limits self e ⌝ }
+    fn start_row(self, a: Board) -> bool
+        ensures { λ r. ⌜ ((c : Bench) → boardAt limits c (self .a) ≡ a → r ≡ startRow limits c self) ⌝ }
     {
-        if e.kind == Event::PROPOSE {
-            return self.board(e.a).is_started();
+        if self.kind == Event::PROPOSE {
+            return a.is_started();
         }
-        if e.kind == Event::TURN {
-            return !self.board(e.a).is_started();
+        if self.kind == Event::TURN {
+            return !a.is_started();
         }
-        if e.kind == Event::ANNOUNCE {
-            return !self.board(e.a).is_started();
+        if self.kind == Event::ANNOUNCE {
+            return !a.is_started();
         }
         false
     }
 
-    fn end_row(self, e: Event) -> bool
-        ensures { λ r. ⌜ r ≡ endRow limits self e ⌝ }
+    fn end_row(self, a: Board) -> bool
+        ensures { λ r. ⌜ ((c : Bench) → boardAt limits c (self .a) ≡ a → r ≡ endRow limits c self) ⌝ }
     {
-        if e.kind == Event::TURN {
-            return self.board(e.a).is_ended();
+        if self.kind == Event::TURN {
+            return a.is_ended();
         }
-        if e.kind == Event::ANNOUNCE {
-            return self.board(e.a).is_decided();
+        if self.kind == Event::ANNOUNCE {
+            return a.is_decided();
         }
         false
     }
 
-    fn signed_row(self, e: Event) -> bool
-        ensures { λ r. ⌜ r ≡ signedRow limits self e ⌝ }
+    fn signed_row(self, signed: u32) -> bool
+        ensures { λ r. ⌜ ((c : Bench) → (self .kind ≡ delivering → signedBy limits c (self .b) (self .id) ≡ signed) → r ≡ signedRow limits c self) ⌝ }
     {
-        if e.kind != Event::DELIVER {
+        if self.kind != Event::DELIVER {
             return false;
         }
-        let id = Identifier(e.id);
-        self.signed(e.b, id) != Log::entry_of(e.value)
+        signed != Log::entry_of(self.value)
     }
 
-    fn last_row(self, e: Event) -> bool
-        ensures { λ r. ⌜ r ≡ lastRow limits self e ⌝ }
+    fn last_row(self, own: Signer) -> bool
+        ensures { λ r. ⌜ ((c : Bench) → signerAt limits c (self .a) ≡ own → r ≡ lastRow limits c self) ⌝ }
     {
-        if e.kind != Event::SIGN {
+        if self.kind != Event::SIGN {
             return false;
         }
-        let last = self.signer(e.a).last;
-        e.id <= last.0
+        let last = own.last;
+        self.id <= last.0
     }
 
-    fn delivered_row(self, e: Event) -> bool
-        ensures { λ r. ⌜ r ≡ deliveredRow limits self e ⌝ }
+    fn delivered_row(self, a: Board) -> bool
+        ensures { λ r. ⌜ ((c : Bench) → boardAt limits c (self .a) ≡ a → r ≡ deliveredRow limits c self) ⌝ }
     {
-        if e.kind != Event::DELIVER {
+        if self.kind != Event::DELIVER {
             return false;
         }
-        let id = Identifier(e.id);
-        self.delivered(e.a, e.b, id) != 0
+        let id = Identifier(self.id);
+        a.delivered.entry(self.b, id) != 0
     }
 
-    fn announcer_row(self, e: Event) -> bool
-        ensures { λ r. ⌜ r ≡ announcerRow limits self e ⌝ }
+    fn announcer_row(self, sound: u16, decided: bool) -> bool
+        ensures { λ r. ⌜ ((c : Bench) → c .sound ≡ sound → (self .kind ≡ announcing → hasDecided (boardAt limits c (self .b) .status) (self .id) (self .value) ≡ decided) → r ≡ announcerRow limits c self) ⌝ }
     {
-        if e.kind != Event::ANNOUNCE {
+        if self.kind != Event::ANNOUNCE {
             return false;
         }
-        if !self.is_sound(e.b) {
+        if !set::has(sound, self.b) {
             return false;
         }
-        let round = Round(e.id);
-        !self.board(e.b).has_decided(round, e.value)
+        !decided
     }
 
-    fn ballots_row(self, e: Event) -> bool
-        ensures { λ r. ⌜ r ≡ ballotsRow limits self e ⌝ }
+    fn ballots_row(self, n: u8, a: Board) -> bool
+        ensures { λ r. ⌜ ((c : Bench) → c .n ≡ n → boardAt limits c (self .a) ≡ a → r ≡ ballotsRow limits c self) ⌝ }
     {
-        if e.kind != Event::ANNOUNCE {
+        if self.kind != Event::ANNOUNCE {
             return false;
         }
-        let round = Round(e.id);
-        self.board(e.a).tally(self.n, round, e.value) < bus::quorum(self.n)
+        let round = Round(self.id);
+        a.tally(n, round, self.value) < bus::quorum(n)
     }
 
-    fn turn_row(self, e: Event) -> bool
-        ensures { λ r. ⌜ r ≡ turnRow limits self e ⌝ }
+    // The rows about the boards and signers that it names, but for the last.
+    fn check_state(self, a: Board, own: Signer, rest: Rest) -> Answer
+        ensures { λ r. ⌜ ((c : Bench) → Has limits c self a own rest → boardsRow c self ≡ false → firstOf (stateRows limits c self) ≡ thenLast r (turnRow limits c self)) ⌝ }
     {
-        if e.kind != Event::TURN {
-            return false;
-        }
-        let turn = self.board(e.a).turn(self.n, e.a);
-        let answer = turn.answer;
-        if is_waiting(answer) {
-            return true;
-        }
-        let said = turn.signed;
-        refuses(self.signer(e.a), said)
-    }
-
-    // The rows about the boards and signers that the event names.
-    fn check_state(self, e: Event) -> Answer
-        ensures { λ r. ⌜ r ≡ firstOf (stateRows limits self e) ⌝ }
-    {
-        if self.start_row(e) {
+        if self.start_row(a) {
             return Answer::WrongStart;
         }
-        if self.end_row(e) {
+        if self.end_row(a) {
             return Answer::AtEnd;
         }
-        if self.signed_row(e) {
+        if self.signed_row(rest.signed) {
             return Answer::NotSigned;
         }
-        if self.last_row(e) {
+        if self.last_row(own) {
             return Answer::NotAbove;
         }
-        if self.delivered_row(e) {
+        if self.delivered_row(a) {
             return Answer::HasIt;
         }
-        if self.announcer_row(e) {
+        if self.announcer_row(rest.sound, rest.decided) {
             return Answer::NotDecided;
         }
-        if self.ballots_row(e) {
+        if self.ballots_row(rest.n, a) {
             return Answer::FewBallots;
-        }
-        if self.turn_row(e) {
-            return Answer::MustWait;
         }
         Answer::Accepted
     }
 
-    // The first row of the table that applies.
-    pub fn check(self, e: Event) -> Answer
-        ensures { λ r. ⌜ r ≡ checkOf limits self e ⌝ }
+    // The first row of the table that applies on a bench with these parts, but for the last: that row is about what
+    // comes of a turn.
+    pub(crate) fn check(self, a: Board, own: Signer, rest: Rest) -> Answer
+        ensures { λ r. ⌜ ((c : Bench) → Has limits c self a own rest → Checks limits c self r) ⌝ }
     {
-        if e.kind_row() {
+        if self.kind_row() {
             return Answer::NoKind;
         }
-        if self.boards_row(e) {
+        if self.boards_row(rest.n) {
             return Answer::NoBoard;
         }
-        if e.fields_row() {
+        if self.fields_row() {
             return Answer::WrongField;
         }
-        if self.mark_row(e) {
+        if self.mark_row(rest.sound) {
             return Answer::WrongMark;
         }
-        if e.pair_row() {
+        if self.pair_row() {
             return Answer::SameBoard;
         }
-        self.check_state(e)
+        self.check_state(a, own, rest)
     }
 }

@@ -1,42 +1,64 @@
--- `Bench::event` meets its contract: the test says whether the event is accepted. Assumes nothing.
+-- `Bench::event` meets its contract: the parts that the event changes are put back. Assumes nothing.
 use borrow.Author.Needs.{needs}
-use borrow.Author.Tests.{not-true, not-false}
-use mathlib.Core.Bool.{true, false}
-use mathlib.Core.Path.{_≡_, sym, ap, _∙_}
-use Rattle.signer.proofs.ChoiceLaws.{if-true, if-false}
+use mathlib.Core.Path.{refl, sym, _∙_}
+use Rattle.signer.specs.FromOne.{setNth}
 use Rattle.delivery.specs.Limits.{limits}
-use Rattle.bench.specs.Answers.{isAccepted}
-use Rattle.bench.specs.Table.{checkOf}
-use Rattle.bench.specs.Effects.{effectOf, stepOf}
+use Rattle.bench.specs.Effects.{withBoardAt, withOwed}
+use Rattle.bench.specs.Parts.{withSigner}
+use Rattle.bench.proofs.PartLaws.{has-own, board-back, signer-back, step-parts, step-outcome}
 use Rattle.bench.proofs.bench.Bench.event.Statement.{statement}
 use Rattle.bench.proofs.bench.Bench.event.Tie as tie
 
-check-requires : tie.Need-check-requires
-check-requires c κs = search needs
+board-requires : tie.Need-board-requires
+board-requires c κs = search needs
 
-is-accepted-requires : tie.Need-is-accepted-requires
-is-accepted-requires c κs = search needs
+signer-requires : tie.Need-signer-requires
+signer-requires c κs = search needs
+
+rest-requires : tie.Need-rest-requires
+rest-requires c κs = search needs
+
+step-requires : tie.Need-step-requires
+step-requires c κs = search needs
+
+owed-requires : tie.Need-owed-requires
+owed-requires c κs = search needs
+
+with-board-requires : tie.Need-with-board-requires
+with-board-requires c κs = search needs
+
+with-signer-requires : tie.Need-with-signer-requires
+with-signer-requires c κs = search needs
+
+with-owed-requires : tie.Need-with-owed-requires
+with-owed-requires c κs = search needs
 
 returns : tie.Need-returns
-unfolding stepOf
+unfolding withBoardAt withSigner withOwed
 returns c =
-    let k = c .before .before in
-    let s = k .before .args in
-    let h : isAccepted (checkOf limits (s .self) (s .e)) ≡ false = ap isAccepted (sym (k .check .ensures)) ∙ sym (c .before .is-accepted .ensures) ∙ not-true _ (c .if1 .taken) in
-    rw (k .check .ensures, if-false (isAccepted (checkOf limits (s .self) (s .e))) (effectOf limits (s .self) (s .e)) (s .self) h)
-
-apply-requires : tie.Need-apply-requires
-apply-requires c κs = search needs
-
-returns-2 : tie.Need-returns-2
-unfolding stepOf
-returns-2 c =
-    let e = c .before in
-    let k = e .before .before in
-    let s = k .before .args in
-    let h : isAccepted (checkOf limits (s .self) (s .e)) ≡ true = ap isAccepted (sym (k .check .ensures)) ∙ sym (e .before .is-accepted .ensures) ∙ not-false _ (e .if1 .left) in
-    rw (c .apply .ensures, k .check .ensures, if-true (isAccepted (checkOf limits (s .self) (s .e))) (effectOf limits (s .self) (s .e)) (s .self) h)
+    let w = c .before .before in
+    let o = w .before in
+    let t = o .before .before .before .before in
+    let r = t .before in
+    let g = r .before in
+    let b = g .before .before .args .self in
+    let e = g .before .before .args .e in
+    let x = t .step .result in
+    let s = t .step .ensures b (rw (r .rest .ensures, g .signer .ensures, g .before .board .ensures) (has-own limits b e)) in
+    rw
+    (c .with-owed .ensures, c .before .with-signer .ensures, w .with-board .ensures, o .owed .ensures b refl refl refl)
+    (step-outcome limits b e _ _ (step-parts limits b e _ _ x s (setNth (b .boards) (e .a) (x .board)) (setNth (b .signers) (e .a) (x .signer)) (λ h. (refl, refl)) (λ q. board-back limits b e (x .board) (sym (q ∙ g .before .board .ensures))) (λ q. signer-back limits b e (x .signer) (sym (q ∙ g .signer .ensures)))) (s .answers))
 
 pub event-spec : {M : Type 1} → statement M
 event-spec =
-    tie.close (tie.spec check-requires is-accepted-requires returns apply-requires returns-2)
+    tie.close
+    (tie.spec
+    board-requires
+    signer-requires
+    rest-requires
+    step-requires
+    owed-requires
+    with-board-requires
+    with-signer-requires
+    with-owed-requires
+    returns)

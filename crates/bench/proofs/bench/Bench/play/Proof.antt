@@ -10,7 +10,7 @@ use mathlib.Core.List.{List, [], _∷_}
 use lib.ListN.{length}
 use Rattle.delivery.specs.Limits.{limits}
 use Rattle.bench.specs.Events.{eventBytes}
-use Rattle.bench.specs.Setups.{freshAnswer, freshBench, freshOf}
+use Rattle.bench.specs.Setups.{freshAnswer, benchOf, freshBench, freshOf}
 use Rattle.bench.specs.Runs.{after, answersTo, eventsIn, endingOf, playedBy, eventsPlayed, written, playedOf, answersAfter}
 use Rattle.bench.specs.Story.{History, historyOf}
 use Rattle.bench.specs.Claim.{Agreement}
@@ -24,6 +24,7 @@ use Rattle.bench.specs.declared.play.Ending.the-variants.{Played, Ragged
 use Rattle.bench.specs.declared.play.Played.{Played as PlayedList}
 use Rattle.bench.proofs.play.Ending.{the-type}
 use Rattle.bench.proofs.RunLaws.{length-answers, length-written, played-fits, played-room, history-written}
+use Rattle.bench.proofs.SetupLaws.{limits-ground}
 use Rattle.bench.proofs.Demands.{demand-3}
 use Rattle.bench.proofs.bench.Bench.play.Statement.{statement}
 use Rattle.bench.proofs.bench.Bench.play.Tie as tie
@@ -73,11 +74,13 @@ rest Ragged bs h = refl
 rest Short bs h = refl
 
 run-requires : tie.Need-run-requires
+unfolding freshOf freshBench benchOf
 run-requires c κs =
     let h = c .before .before .before in
-    let a = h .before .before .before .before .before .args in
+    let f = h .before .before in
+    let a = f .before .before .before .args in
     let room : length (a .events .now) / eventBytes ≤ length (a .answers .now) = played-room (a .events .now) (length (a .answers .now)) (sym (h .how-it-ends .ensures) ∙ c .before .enum-told .given .1) in
-    (omega arith, room)
+    (omega arith, room, rw (f .fresh .ensures) (limits-ground (a .n) (a .marks) .boards-enough))
 
 same-length : tie.Need-same-length
 same-length c = search needs
