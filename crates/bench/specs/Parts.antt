@@ -1,5 +1,5 @@
--- What the inner calls promise by: they hand on the parts of a bench that an event looks at, and not the bench. Nothing
--- of the machine rests on this.
+-- What the calls within promise by. They hand on the parts of a bench that an event looks at, and not the bench; each
+-- promises something for every bench that has these parts.
 use Prim.Native.Nat.{ℕ}
 use mathlib.Core.Path.{_≡_}
 use mathlib.Core.Bool.{Bool, true, false}
@@ -63,14 +63,10 @@ pub record Checks (L : Limits) (c : Bench) (e : Event) (r : Answer) : Type 0 whe
   pub boards : isAccepted r ≡ true → boardsRow c e ≡ false
   pub rest : checkOf L c e ≡ thenLast r (turnRow L c e)
 
--- the signer of a board that had this to say, and the bench with another signer for board k
+-- the signer of a board that had this to say
 unfoldable pub signerBy : Limits → Signer → Said → Signer
 signerBy L s Nothing = s
 signerBy L s (One x) = sign (L .identifiers) s (x .id .0) (x .value) .signer
-
-unfoldable pub withSigner : Bench → ℕ → Signer → Bench
-withSigner c k s =
-    record { n = c .n; sound = c .sound; boards = c .boards; signers = setNth (c .signers) k s; owed = c .owed }
 
 -- the copies that are owed once this was said in a turn, or delivered
 unfoldable pub owedBy : Limits → Bench → Event → Said → Owed
@@ -78,19 +74,18 @@ owedBy L c e Nothing = c .owed
 owedBy L c e (One s) =
     if eqb (e .kind) turning then afterSaying L c (e .a) (One s) .owed else afterHearing L c (e .a) s .owed
 
--- an effect with nothing said, and the bench once the parts of an effect are put back
+-- an effect with nothing said
 abbrev pub silent : Answer → Board → Signer → Effect
 silent a b s = record { answer = a; board = b; signer = s; said = Nothing }
 
+-- the bench with another board k, another signer for it and other copies owed, and so with the parts of an effect put
+-- back
+abbrev pub withParts : Bench → ℕ → Board → Signer → Owed → Bench
+withParts c k b s o =
+    record { n = c .n; sound = c .sound; boards = setNth (c .boards) k b; signers = setNth (c .signers) k s; owed = o }
+
 unfoldable pub putBack : Limits → Bench → Event → Effect → Bench
-putBack L c e x =
-    record {
-      n = c .n;
-      sound = c .sound;
-      boards = setNth (c .boards) (e .a) (x .board);
-      signers = setNth (c .signers) (e .a) (x .signer);
-      owed = owedBy L c e (x .said);
-    }
+putBack L c e x = withParts c (e .a) (x .board) (x .signer) (owedBy L c e (x .said))
 
 -- an event with this answer is done, or leaves the parts as they were
 pub record Steps (L : Limits) (c : Bench) (e : Event) (r : Answer) (a : Board) (own : Signer) (x : Effect) : Type 0 where

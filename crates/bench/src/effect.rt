@@ -3,8 +3,8 @@ ghost use Rattle.delivery.specs.Limits.{limits};
 ghost use Rattle.bench.specs.Events.{turning, delivering};
 ghost use Rattle.bench.specs.Benches.{boardAt, signerAt};
 ghost use Rattle.bench.specs.Table.{turnRow, checkOf};
-ghost use Rattle.bench.specs.Effects.{withBoardAt, withOwed, effectOf, stepOf};
-ghost use Rattle.bench.specs.Parts.{Has, Own, lastOf, signerBy, withSigner, owedBy, silent, putBack, Steps};
+ghost use Rattle.bench.specs.Effects.{effectOf, stepOf};
+ghost use Rattle.bench.specs.Parts.{Has, Own, lastOf, signerBy, owedBy, silent, withParts, putBack, Steps};
 ghost use Rattle.bench.specs.declared.answer.Answer.the-variants.{Accepted};
 ghost use Rattle.bench.specs.declared.bench.Bench.{Bench};
 use crate::answer::Answer;
@@ -168,37 +168,17 @@ impl Event {
 }
 
 impl Bench {
-    // With another board k; unchanged where the number is no board's.
-    fn with_board(self, k: u8, board: Board) -> Bench
-        ensures { λ r. ⌜ r ≡ withBoardAt self k board ⌝ }
+    // With another board k, another signer for it, and other copies owed; where the number is no board's, with these
+    // copies alone.
+    fn with_parts(self, k: u8, board: Board, signer: Signer, owed: Owed) -> Bench
+        ensures { λ r. ⌜ r ≡ withParts self k board signer owed ⌝ }
     {
-        if !Delivered::is_board(k) {
-            return self;
-        }
         let mut boards = self.boards;
-        boards[(k - 1) as usize] = board;
-        let signers = self.signers;
-        let owed = self.owed;
-        Bench {
-            n: self.n,
-            sound: self.sound,
-            boards,
-            signers,
-            owed,
-        }
-    }
-
-    // With another signer for board k; unchanged where the number is no board's.
-    fn with_signer(self, k: u8, signer: Signer) -> Bench
-        ensures { λ r. ⌜ r ≡ withSigner self k signer ⌝ }
-    {
-        if !Delivered::is_board(k) {
-            return self;
-        }
         let mut signers = self.signers;
-        signers[(k - 1) as usize] = signer;
-        let boards = self.boards;
-        let owed = self.owed;
+        if Delivered::is_board(k) {
+            boards[(k - 1) as usize] = board;
+            signers[(k - 1) as usize] = signer;
+        }
         Bench {
             n: self.n,
             sound: self.sound,
@@ -206,13 +186,6 @@ impl Bench {
             signers,
             owed,
         }
-    }
-
-    fn with_owed(mut self, owed: Owed) -> Bench
-        ensures { λ r. ⌜ r ≡ withOwed self owed ⌝ }
-    {
-        self.owed = owed;
-        self
     }
 
     // The first row of the table that applies.
@@ -234,9 +207,7 @@ impl Bench {
         let signer = effect.signer;
         let boards = self.boards;
         let owed = e.owed(said, self.owed, self.sound, boards);
-        let bench = self.with_board(e.a, board)
-            .with_signer(e.a, signer)
-            .with_owed(owed);
+        let bench = self.with_parts(e.a, board, signer, owed);
         Outcome { bench, answer }
     }
 }

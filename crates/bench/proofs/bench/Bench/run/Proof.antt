@@ -141,27 +141,31 @@ array-set-from-signers c = i-in (c .before .before .before .before .before .befo
 number-requires : tie.Need-number-requires Inv-loop μ-loop
 number-requires c κs = search needs
 
+-- the turn of the loop that is about to end
+abbrev turned : tie.After-number Inv-loop μ-loop → tie.In-loop Inv-loop μ-loop
+turned c = c .before .before .before .before .before .before .before .before .before .before .before .before .before .before
+
 slice-write-answers : tie.Need-slice-write-answers Inv-loop μ-loop
 slice-write-answers c =
-    let i = c .before .before .before .before .before .before .before .before .before .before .before .before .before .before in
+    let i = turned c in
     let s = i .before .before .before .before .before .before .before in
     omega (arith, s .pre .1)
 
 add-at : tie.Need-add-at Inv-loop μ-loop
 add-at c =
-    let i = c .before .before .before .before .before .before .before .before .before .before .before .before .before .before in
+    let i = turned c in
     let s = i .before .before .before .before .before .before .before in
     omega (arith, s .pre .0)
 
 add-k : tie.Need-add-k Inv-loop μ-loop
 add-k c =
-    let i = c .before .before .before .before .before .before .before .before .before .before .before .before .before .before in
+    let i = turned c in
     let s = i .before .before .before .before .before .before .before in
     omega arith
 
 loop-less : tie.Need-loop-less Inv-loop μ-loop
 loop-less c =
-    let i = c .before .before .before .before .before .before .before .before .before .before .before .before .before .before in
+    let i = turned c in
     omega arith
 
 loop-again : tie.Need-loop-again Inv-loop μ-loop
