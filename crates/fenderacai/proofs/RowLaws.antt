@@ -1,12 +1,12 @@
 -- Laws of rows: words put one after another, and how many they are. Assumes nothing.
-use Prim.Native.Nat.{ℕ, zero, suc, _+_, _*_, _≤_}
+use Prim.Native.Nat.{ℕ, zero, suc, _+_, _*_}
 use native.Mathlib.Numerals.{add-one}
 use native.Mathlib.Omega.{arith}
 use mathlib.Core.Path.{_≡_, refl, sym, ap, _∙_}
 use mathlib.Core.List.{List, [], _∷_, _++_}
 use lib.ListN.{length, length-append}
 use Rattle.signer.specs.Log.{entryAt}
-use Rattle.delivery.specs.Limits.{Limits, limits}
+use Rattle.delivery.specs.Limits.{limits}
 use Rattle.delivery.specs.Owed.{receiversAt, copiesOf, receivers}
 use Rattle.delivery.specs.declared.owed.Owed.{Owed}
 use Rattle.delivery.proofs.OwedLaws.{receivers-copies}

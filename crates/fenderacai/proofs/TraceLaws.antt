@@ -1,5 +1,5 @@
 -- Laws of traces: rows put one after another, how many words they are, and those of a file that was read. Assumes nothing.
-use Prim.Native.Nat.{ℕ, zero, suc, _+_, _-_, _*_, _<_}
+use Prim.Native.Nat.{ℕ, _+_, _-_, _*_, _<_}
 use native.Mathlib.Omega.{arith}
 use mathlib.Core.Path.{_≡_, refl, sym, ap, _∙_}
 use mathlib.Core.List.{List, [], _∷_, _++_}
@@ -14,7 +14,6 @@ use Rattle.bench.specs.Setups.{freshBench}
 use Rattle.bench.specs.declared.bench.Bench.{Bench}
 use Rattle.bench.specs.declared.event.Event.{Event}
 use Rattle.bench.proofs.RunLaws.{length-events, events-next}
-use Rattle.schedule.specs.Files.{fault}
 use Rattle.schedule.specs.Prints.{PutAt}
 use Rattle.schedule.specs.Readings.{scheduleOf}
 use Rattle.schedule.specs.declared.answer.Fault.{Fault}

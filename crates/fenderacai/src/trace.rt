@@ -4,7 +4,6 @@ ghost use lib.ListN.{length};
 ghost use Rattle.delivery.specs.Limits.{limits};
 ghost use Rattle.bench.specs.Events.{eventBytes};
 ghost use Rattle.bench.specs.Runs.{eventsIn};
-ghost use Rattle.schedule.specs.Files.{mostEvents};
 ghost use Rattle.schedule.specs.Readings.{scheduleOf};
 ghost use Rattle.schedule.specs.Prints.{PutAt, bufferFrom};
 ghost use Rattle.schedule.specs.declared.answer.FileAnswer.the-variants.{Taken};

@@ -4,7 +4,6 @@ use types.Run.{OneOf, miss}
 use denote.Enum.Declared.{tagOf}
 use mathlib.Core.Path.{_≡_, refl}
 use mathlib.Core.List.{[], _∷_}
-use Rattle.vote.specs.declared.board.Decision.{Decision}
 use Rattle.vote.specs.declared.board.Status.{Status}
 use Rattle.vote.specs.declared.board.Status.the-variants.{Idle, Voting, Spent, Decided}
 use Rattle.vote.proofs.board.Status.{the-type}

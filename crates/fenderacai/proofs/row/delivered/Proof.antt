@@ -1,6 +1,6 @@
 -- `row::delivered` meets its contract. The loop's invariant: what the first k boards delivered is put. Assumes nothing.
 use borrow.Author.Needs.{needs}
-use Prim.Native.Nat.{_+_, _-_, _≤_}
+use Prim.Native.Nat.{_-_, _≤_}
 use native.Mathlib.Omega.{arith}
 use mathlib.Core.Path.{_≡_}
 use Rattle.delivery.specs.Limits.{limits}

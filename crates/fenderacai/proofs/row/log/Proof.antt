@@ -1,9 +1,7 @@
 -- `row::log` meets its contract. The loop's invariant: the first i words are put. Assumes nothing.
-use borrow.Author.Needs.{needs}
-use Prim.Native.Nat.{ℕ, _+_, _-_, _≤_}
+use Prim.Native.Nat.{_-_, _≤_}
 use native.Mathlib.Omega.{arith}
-use mathlib.Core.Path.{_≡_, sym, ap, _∙_}
-use lib.ListN.{length, getD}
+use mathlib.Core.Path.{_≡_}
 use Rattle.signer.specs.Log.{entryAt}
 use Rattle.delivery.specs.Limits.{limits}
 use Rattle.signer.proofs.LogLaws.{entry-after}

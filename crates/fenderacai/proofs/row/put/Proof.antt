@@ -3,7 +3,6 @@ use borrow.Author.Needs.{needs}
 use native.Mathlib.Omega.{arith}
 use mathlib.Core.Path.{refl}
 use Rattle.delivery.specs.Limits.{limits}
-use Rattle.delivery.specs.Owed.{receivers}
 use Rattle.bench.specs.Benches.{signedBy}
 use Rattle.schedule.proofs.PrintLaws.{put-then, put-length}
 use Rattle.fenderacai.specs.Rows.{row}

@@ -1,6 +1,5 @@
 -- `row::status` meets its contract: the words are put one after another. Assumes nothing.
 use borrow.Author.Needs.{needs}
-use mathlib.Core.Path.{_≡_}
 use Rattle.schedule.proofs.PrintLaws.{put-then}
 use Rattle.fenderacai.specs.Rows.{statusWords}
 use Rattle.fenderacai.proofs.row.status.Statement.{statement}

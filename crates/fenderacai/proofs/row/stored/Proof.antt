@@ -1,5 +1,5 @@
 -- `row::stored` meets its contract. The loop's invariant: the entries of the first k speakers are put. Assumes nothing.
-use Prim.Native.Nat.{_+_, _-_, _≤_}
+use Prim.Native.Nat.{_-_, _≤_}
 use native.Mathlib.Omega.{arith}
 use mathlib.Core.Path.{_≡_}
 use Rattle.delivery.specs.Limits.{limits}

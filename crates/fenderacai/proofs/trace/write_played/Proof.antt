@@ -1,21 +1,20 @@
 -- `trace::write_played` meets its contract: the row of the fresh bench and those of the events are the file's trace.
 -- Assumes nothing.
 use borrow.Author.Needs.{needs}
-use Prim.Native.Nat.{ℕ, _+_, _-_, _*_, _≤_}
+use Prim.Native.Nat.{ℕ, _+_, _-_}
 use native.Mathlib.Omega.{arith}
 use mathlib.Core.Path.{_≡_, sym, ap, subst, _∙_}
 use mathlib.Core.List.{List, _++_}
 use lib.ListN.{length, take, drop}
 use borrow.Rule.Slice.PartAt.{part-to-end}
 use Rattle.delivery.specs.Limits.{limits}
-use Rattle.bench.specs.Events.{eventBytes}
 use Rattle.bench.specs.Runs.{eventsIn}
 use Rattle.bench.specs.Setups.{freshBench, freshOf}
 use Rattle.bench.specs.declared.fresh.Fresh.{Fresh}
 use Rattle.schedule.specs.Prints.{PutAt}
 use Rattle.schedule.proofs.FileLaws.{bytes-of}
 use Rattle.schedule.proofs.PrintLaws.{put-then, put-length, buffer-short, buffer-written}
-use Rattle.schedule.proofs.PlayLaws.{Filed, file-taken, few-events, start-within, events-fit}
+use Rattle.schedule.proofs.PlayLaws.{Filed, file-taken, start-within, events-fit}
 use Rattle.fenderacai.specs.Rows.{row}
 use Rattle.fenderacai.specs.Traces.{rowsOf, traced}
 use Rattle.fenderacai.proofs.RowLaws.{length-row}
