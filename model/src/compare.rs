@@ -2,12 +2,13 @@
 
 use crate::coverage::Coverage;
 use crate::file::{self, open, Schedule};
+use crate::limits::{BOARDS, EVENTS};
 use crate::machine::Event;
 use crate::trial::Trial;
 use crate::words::{meaning, name, write_row, ROW};
 
-/// No report is longer.
-pub const LONGEST_REPORT: usize = 36_962;
+/// No report is longer: a line of an event has up to nine bytes, one of a board up to fourteen.
+pub const LONGEST_REPORT: usize = EVENTS * 9 + BOARDS * 14;
 
 /// Stands in lent buffers where nothing is written yet. It is no word of any row.
 const UNWRITTEN: u32 = u32::MAX;
