@@ -1,5 +1,6 @@
 -- The three demands stand in Demands. Before it, in the order in which they rest on one another: laws of the machine, of
--- histories, of one accepted event, of what is read off the bench after it, and of every list of events.
+-- histories, of one accepted event, of what is read off the bench after it, and of every list of events. After it, what the
+-- walks of calls on a lent bench go by.
 pub mod TableLaws
 pub mod EffectLaws
 pub mod BenchLaws
@@ -23,3 +24,4 @@ pub mod OriginLaws
 pub mod ClaimLaws
 pub mod OutsetLaws
 pub mod Demands
+pub mod ThinCall

@@ -105,7 +105,7 @@ impl Event {
     }
 
     // What an event does that no row before the last applies to.
-    fn apply(self, n: u8, a: Board, own: Signer) -> Effect
+    fn effect(self, n: u8, a: Board, own: Signer) -> Effect
         ensures { λ r. ⌜ ((c : Bench) → Own limits c self n a own → Steps limits c self (lastOf (turnRow limits c self)) a own r) ⌝ }
     {
         let answer = Answer::Accepted;
@@ -140,7 +140,7 @@ impl Event {
         if !answer.is_accepted() {
             return Effect::silent(answer, a, own);
         }
-        self.apply(rest.n, a, own)
+        self.effect(rest.n, a, own)
     }
 
     // The copies that are owed once it has brought a statement, on a bench that has these boards.
@@ -209,5 +209,14 @@ impl Bench {
         let owed = e.owed(said, self.owed, self.sound, boards);
         let bench = self.with_parts(e.a, board, signer, owed);
         Outcome { bench, answer }
+    }
+
+    // One event, on a bench that is lent: the answer is returned, and the bench left as it is afterwards.
+    pub fn apply(&mut self, e: Event) -> Answer
+        ensures { λ r. ⌜ (r ≡ stepOf limits (now (self .entry)) e .answer) × (now (self .exit) ≡ stepOf limits (now (self .entry)) e .bench) ⌝ }
+    {
+        let out = (*self).event(e);
+        *self = out.bench;
+        out.answer
     }
 }

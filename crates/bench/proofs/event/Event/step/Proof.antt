@@ -28,8 +28,8 @@ returns c b h =
     let f : isAccepted (k .check .result) ≡ false = sym (i .is-accepted .ensures) ∙ not-true _ (c .before .if1 .taken) in
     rw (c .silent .ensures) (refuses-so limits b _ _ _ _ _ (k .check .ensures b h .rest ∙ stands _ _ f) f)
 
-apply-requires : tie.Need-apply-requires
-apply-requires c κs = search needs
+effect-requires : tie.Need-effect-requires
+effect-requires c κs = search needs
 
 returns-2 : tie.Need-returns-2
 returns-2 c b h =
@@ -40,11 +40,11 @@ returns-2 c b h =
     let within = boards-a b (a .self) (k .check .ensures b h .boards t) in
     let o : Own limits b (a .self) (a .rest .n) (a .a) (a .own) = record { count = h .count; board = h .board within; signer = h .signer within } in
     subst⁻¹
-    (λ (r : Answer). Steps limits b (a .self) r (a .a) (a .own) (c .apply .result))
+    (λ (r : Answer). Steps limits b (a .self) r (a .a) (a .own) (c .effect .result))
     (k .check .ensures b h .rest ∙ goes-on _ _ t)
-    (c .apply .ensures b o)
+    (c .effect .ensures b o)
 
 pub step-spec : {M : Type 1} → statement M
 step-spec =
     tie.close
-    (tie.spec check-requires is-accepted-requires silent-requires returns apply-requires returns-2)
+    (tie.spec check-requires is-accepted-requires silent-requires returns effect-requires returns-2)

@@ -1,4 +1,4 @@
--- `Event::apply` meets its contract: the tests say which kind the event has. Assumes nothing.
+-- `Event::effect` meets its contract: the tests say which kind the event has. Assumes nothing.
 use borrow.Author.Needs.{needs}
 use Prim.Native.Nat.{ℕ}
 use borrow.Author.Tests.{eq-eqb}
@@ -26,8 +26,8 @@ use Rattle.bench.proofs.EffectLaws.{
   effect-signing,
 }
 use Rattle.bench.proofs.PartLaws.{put-board, put-signature, turn-alone, done}
-use Rattle.bench.proofs.event.Event.apply.Statement.{statement}
-use Rattle.bench.proofs.event.Event.apply.Tie as tie
+use Rattle.bench.proofs.event.Event.effect.Statement.{statement}
+use Rattle.bench.proofs.event.Event.effect.Tie as tie
 
 -- a kind that is another number is not a turn
 clash : (k j : ℕ) → k ≡ j → eqb j turning ≡ false → k ≡ turning → ⊥
@@ -130,8 +130,8 @@ returns-7 c b o =
     (c .silent5 .ensures, c .before .sign .ensures)
     (done limits b _ _ _ _ _ (turn-alone limits b _ (u .if2 .left)) refl (put-signature limits b _ Accepted _ _ _ _ (o .board) (o .signer) ∙ sym (effect-signing limits b _ (p .if1 .left) (u .if2 .left) (d .if3 .left) (a .if4 .left) (s .if5 .left) (t .if6 .left))))
 
-pub apply-spec : {M : Type 1} → statement M
-apply-spec =
+pub effect-spec : {M : Type 1} → statement M
+effect-spec =
     tie.close
     (tie.spec
     propose-requires
