@@ -25,3 +25,5 @@ pub mod ClaimLaws
 pub mod OutsetLaws
 pub mod Demands
 pub mod ThinCall
+pub mod LentCall
+pub mod LentBench

@@ -32,7 +32,7 @@ use Rattle.vote.proofs.BoardLaws.{fresh-delivered}
 use Rattle.vote.proofs.ProperLaws.{Proper, fresh-proper}
 use Rattle.vote.proofs.LifeLaws.{Grounded, fresh-grounded}
 use Rattle.bench.specs.Benches.{signerAt, heardBy, signedBy}
-use Rattle.bench.specs.Setups.{isMarkByte, isMark, isMarkedSound, Setup, freshAnswer, setupBy, setup, benchOf, freshBench}
+use Rattle.bench.specs.Setups.{isMarkByte, isMark, isMarkedSound, Setup, freshAnswer, setupBy, setup, benchOf, freshBench, freshOf}
 use Rattle.bench.specs.Answers.{freshNumber}
 use Rattle.bench.specs.declared.answer.FreshAnswer.{FreshAnswer}
 use Rattle.bench.specs.declared.answer.FreshAnswer.the-variants.{Made, NoBus, NoMark}
@@ -55,6 +55,11 @@ alone-set : withBoard 0 1 ≡ setOf 1 all
 alone-set =
     ap (λ (m : ℕ). withBoard m 1) (sym (set-none 0 all (λ k l h. absurd (omega arith))))
     ∙ with-next 0 all (omega arith) refl
+
+-- what the call for a fresh bench hands back has the fresh bench
+pub fresh-bench : (L : Limits) (n : ℕ) (marks : List ℕ) → freshOf L n marks .bench ≡ freshBench L n marks
+unfolding freshOf
+fresh-bench L n marks = refl
 
 -- marks that read alike make one bench
 module _ (ms rs : List ℕ) (e : (k : ℕ) → nth ms k 0 ≡ nth rs k 0) where

@@ -1,6 +1,11 @@
 // Plays stored schedules of events into fresh benches, and writes what came of each: the answer to the call
 // for the fresh bench; for each event its number and its answer; for each board its number, letter, round and
 // value; and how many copies are owed in the end.
+ghost use mathlib.Core.Path.{_≡_};
+ghost use Rattle.delivery.specs.Limits.{limits};
+ghost use Rattle.bench.specs.Setups.{freshBench};
+ghost use Rattle.bench.specs.Effects.{stepOf};
+use bench::Answer;
 use bench::Bench;
 use bench::Ending;
 use bench::Event;
@@ -374,9 +379,33 @@ fn not_played() {
     );
 }
 
+// What the second of two events is answered, on a fresh bench that both are applied to.
+fn second_answer(n: u8, marks: [u8; Bench::BOARDS as usize], first: Event, second: Event) -> Answer
+    ensures { λ r. ⌜ r ≡ stepOf limits (stepOf limits (freshBench limits n marks) first .bench) second .answer ⌝ }
+{
+    let mut bench = Bench::fresh(n, marks).bench;
+    bench.apply(first);
+    bench.apply(second)
+}
+
+// The signer of a faulty board is asked for the same signature twice.
+fn asked_twice() {
+    let ask = Event {
+        kind: Event::SIGN,
+        a: 3,
+        b: 0,
+        id: 2,
+        value: 700,
+    };
+    write(b"asked for one signature twice\n");
+    let answer = second_answer(3, THIRD, ask, ask);
+    write_answer(2, answer.number());
+}
+
 fn main() {
     votes();
     calls();
     copies();
     not_played();
+    asked_twice();
 }
