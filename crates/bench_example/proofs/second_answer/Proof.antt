@@ -11,7 +11,7 @@ use lib.Dec.{T}
 use mir.Syntax.{Sym, Name, Ty, Tys, tyInt, tyArray, tyRef, tyStruct, w8, erased, mut, place, field, copy, rvOpd, addrOf, seq, assign, call, return, local, valueLocal, memorySlot, Fn}
 use mir.Val.{Val, Vals, vint, vstruct, hasTy, WT}
 use mir.Fields.{getV}
-use base.Logic.{SProp, ent, emp, via, fst∗, snd∗, exE}
+use base.Logic.{SProp, ent, emp, via, fst∗, snd∗, exE, id⊢}
 use base.Fml.{GName, ftrue, fat}
 use prog.Memory.{Memory, fieldAt}
 use prog.Routine.{Routine}
@@ -212,19 +212,23 @@ module _ {M : Type 1} (𝓤 : URA M) (H : Heap 𝓤) (A : Atoms 𝓤) (W : Given
       split ! $ move ! (1 ∷ []) $ use1 W (raw (fact 𝓤 (r ≡ freshOf limits n marks))) (fresh-says r) $ heard ! (r ≡ freshOf limits n marks) (λ says-r. split ! $ drop ! $
       peeks ! F.the-row (Is F.the-row) (shows 𝓤 H A F.the-row) r (v ∷ []) (λ is. by ! (factI 𝓤 (New v) _ (new r v is says-r))))))
 
+  -- what is known of the answer m to the event e on the bench c, and of the bench c′ that is left
+  abbrev Stepped : Event → Bench → Answer → Bench → Type 0
+  Stepped e c m c′ = (m ≡ stepOf limits c e .answer) × (c′ ≡ stepOf limits c e .bench)
+
   -- what is had at exit
-  exits : (c c₁ c₂ : Bench) (w₁ w₂ : Val) → Start c → Applied x c w₁ c₁ → Applied y c₁ w₂ c₂ → ent 𝓤 (emp 𝓤) (Post w₂)
+  exits : (c c₁ c₂ : Bench) (w₁ w₂ : Val) → Start c → Applied (Stepped x c) w₁ c₁ → Applied (Stepped y c₁) w₂ c₂ → ent 𝓤 (emp 𝓤) (Post w₂)
   exits c c₁ c₂ w₁ w₂ start so₁ so₂ =
-      let b : c₁ ≡ stepOf limits (freshBench limits n marks) x .bench = so₁ .left ∙ ap (λ (k : Bench). stepOf limits k x .bench) start in
+      let b : c₁ ≡ stepOf limits (freshBench limits n marks) x .bench = so₁ .so .1 ∙ ap (λ (k : Bench). stepOf limits k x .bench) start in
       qed W [] ∵ suffices ! _ (ends-at 𝓤 H A second_answer.ended stayed (second_answer.clauses 𝓤 H A at-mem run) W ((tt, tt, tt, a, vals), tt) w₂ (so₂ .answer) (tt, (tt, (tt, (tt, tt)))) (tt, (tt, (tt, (tt, tt))))) $
-      says ! (so₂ .answered ∙ ap (λ (k : Bench). stepOf limits k y .answer) b) $
-      owned ! N.the-row (Is N.the-row) (EL.makes N.the-type N′.the-plain 𝓤 H A) (so₂ .answer) _ (subst (λ (u : Val). Is N.the-row (so₂ .answer) (u ∷ [])) (sym (so₂ .returned .spelled)) (so₂ .returned .is)) $
+      says ! (so₂ .so .0 ∙ ap (λ (k : Bench). stepOf limits k y .answer) b) $
+      owned ! N.the-row (Is N.the-row) (EL.makes N.the-type N′.the-plain 𝓤 H A) (so₂ .answer) _ (subst (λ (u : Val). Is N.the-row (so₂ .answer) (u ∷ [])) (sym (so₂ .spelled)) (so₂ .is)) $
       nothing ! $ owned ! E.the-row (Is E.the-row) (LL.makes E.the-type E′.the-plain 𝓤 H A) y _ y-is $ fjoin ! $ owned ! E.the-row (Is E.the-row) (LL.makes E.the-type E′.the-plain 𝓤 H A) x _ x-is $ fjoin ! $
       owned ! Marks (Is Marks) (marks-make 𝓤 H A) marks _ marks-is $ fjoin ! $ owned ! u8 (Is u8) (uint-makes 𝓤 H A W w8) n _ n-is $ fjoin ! $ nothing ! $ done !
 
   module _ (C : Calls 𝓤 H) (Λ : Loops 𝓤 H) (fm : FmC 𝓤 H (W .laws) C) (known-fresh : Triple 𝓤 (C #fresh) (Fr 𝓤 H A at-mem run)) (known-apply : Triple 𝓤 (C #apply) (Ap 𝓤 H A at-mem run)) where
-    answer-typed : (e : Event) (c c′ : Bench) (w : Val) → Applied e c w c′ → T (hasTy N′.mir w) × WT w
-    answer-typed e c c′ w so = subst (λ (u : Val). T (hasTy N′.mir u) × WT u) (sym (so .returned .spelled)) (EL.lawful N.the-type N′.the-laws 𝓤 H A W tt .typed (so .answer) _ (so .returned .is) .0)
+    answer-typed : (e : Event) (c c′ : Bench) (w : Val) → Applied (Stepped e c) w c′ → T (hasTy N′.mir w) × WT w
+    answer-typed e c c′ w so = subst (λ (u : Val). T (hasTy N′.mir u) × WT u) (sym (so .spelled)) (EL.lawful N.the-type N′.the-laws 𝓤 H A W tt .typed (so .answer) _ (so .is) .0)
 
     walked-twice : ent 𝓤 (onEntry 𝓤 H A second_answer.signature tt tt a vals) (WpFn 𝓤 H C Λ code.function (vint w8 n ∷ mv marks ∷ ev x ∷ ev y ∷ []) Post)
     walked-twice =
@@ -232,8 +236,8 @@ module _ {M : Type 1} (𝓤 : URA M) (H : Heap 𝓤) (A : Atoms 𝓤) (W : Given
         (walk #fresh #apply (tyInt w8) (tyArray (tyInt w8) (limits .boards)) E′.mir N′.mir B′.mir (pointee (B.the-row .written)) (F.the-type .name) fields B.the-row bv Start 𝓤 H A W refl (LL.tells B.the-type B′.the-laws)
         (LL.makes B.the-type B′.the-plain 𝓤 H A) (λ c is. LL.lawful B.the-type B′.the-laws 𝓤 H A W .typed c _ is .0) _ refl C Λ fm (vint w8 n) (mv marks) (ev x) (ev y)
         (uint-lawful 𝓤 H A W w8 .typed n _ n-is .0) (marks-laws .lawful 𝓤 H A W .typed marks _ marks-is .0) (LL.lawful E.the-type E′.the-laws 𝓤 H A W .typed x _ x-is .0) (LL.lawful E.the-type E′.the-laws 𝓤 H A W .typed y _ y-is .0)
-        (Fr 𝓤 H A at-mem run .post to-fresh) (via 𝓤 _ goes-fresh (known-fresh to-fresh)) made (Applied x) (Applied y)
-        (λ c α l δ. applies 𝓤 H A at-mem run W C known-apply x x-is c α l 0 δ) (λ c α l δ. applies 𝓤 H A at-mem run W C known-apply y y-is c α l 0 δ) (answer-typed x) (answer-typed y) Post exits)
+        (Fr 𝓤 H A at-mem run .post to-fresh) (via 𝓤 _ goes-fresh (known-fresh to-fresh)) made (λ c. Applied (Stepped x c)) (λ c. Applied (Stepped y c))
+        (λ c α l δ. applies 𝓤 H A at-mem run W C known-apply x x-is c (Stepped x c) α l 0 δ (λ m. id⊢ 𝓤 _)) (λ c α l δ. applies 𝓤 H A at-mem run W C known-apply y y-is c (Stepped y c) α l 0 δ (λ m. id⊢ 𝓤 _)) (answer-typed x) (answer-typed y) Post exits)
 
 module _ {M : Type 1} (𝓤 : URA M) (H : Heap 𝓤) (A : Atoms 𝓤) (W : Given 𝓤 H A) (at-mem : Memory → SProp 𝓤) (run : Routine → Fun 𝓤) where
   second-answer-walks : (C : Calls 𝓤 H) (Λ : Loops 𝓤 H) → FmC 𝓤 H (W .laws) C → Triple 𝓤 (C #fresh) (Fr 𝓤 H A at-mem run) → Triple 𝓤 (C #apply) (Ap 𝓤 H A at-mem run) → Walks 𝓤 H A second_answer.ended stayed (WpFn 𝓤 H C Λ code.function) (second_answer.clauses 𝓤 H A at-mem run)

@@ -42,7 +42,7 @@ use Rattle.bench.specs.declared.event.Event.{Event}
 use Rattle.bench.specs.declared.effect.Outcome.{Outcome}
 use Rattle.bench.specs.declared.answer.Answer.{Answer}
 use Rattle.bench.proofs.ThinCall.{thin, Back, walk}
-use Rattle.bench.proofs.LentBench.{bv, ev, nv, Answers, Applied}
+use Rattle.bench.proofs.LentBench.{bv, ev, nv, Applied}
 use Rattle.bench.proofs.bench.Bench as B
 use Rattle.bench.proofs.bench.Bench.Laws as B′
 use Rattle.bench.proofs.event.Event as E
@@ -103,8 +103,12 @@ module _ {M : Type 1} (𝓤 : URA M) (H : Heap 𝓤) (A : Atoms 𝓤) (W : Given
   event-says : (r : Outcome) → ent 𝓤 (ensured 𝓤 H A event.ended (event.clauses 𝓤 H A at-mem run) tt (h, (e, tt)) tt r) (fact 𝓤 (r ≡ stepOf limits h e))
   event-says r = exE 𝓤 _ (λ ws. snd∗ 𝓤 (sem 𝓤 H A (lasts event.ended tt (h, (e, tt)) ws)) (fact 𝓤 (r ≡ stepOf limits h e)))
 
+  -- what is promised of the answer m and of the bench c that is left
+  abbrev Stepped : Answer → Bench → Type 0
+  Stepped m c = (m ≡ stepOf limits h e .answer) × (c ≡ stepOf limits h e .bench)
+
   abbrev Handed : Val → Type 0
-  Handed = Back #event B′.mir (pointee (B.the-row .written)) E′.mir N′.mir (O.the-type .name) fields B.the-row bv (λ c v. Applied e h v c)
+  Handed = Back #event B′.mir (pointee (B.the-row .written)) E′.mir N′.mir (O.the-type .name) fields B.the-row bv (λ c v. Applied Stepped v c)
 
   handed : (r : Outcome) (v : Val) → Is O.the-row r (v ∷ []) → r ≡ stepOf limits h e → Handed v
   handed r v is says-r =
@@ -118,7 +122,7 @@ module _ {M : Type 1} (𝓤 : URA M) (H : Heap 𝓤) (A : Atoms 𝓤) (W : Given
         answer = nv (r .answer);
         answer-typed = EL.lawful N.the-type N′.the-laws 𝓤 H A W tt .typed (r .answer) _ (answer-is r v is) .0;
         second = refl;
-        so = record { answer = r .answer; returned = record { spelled = refl; is = answer-is r v is }; answered = λ i. says-r i .answer; left = λ i. says-r i .bench };
+        so = record { answer = r .answer; is = answer-is r v is; spelled = refl; so = ((λ i. says-r i .answer), (λ i. says-r i .bench)) };
       }
 
   told : (v : Val) → ent 𝓤 (Ev 𝓤 H A at-mem run .post to-event v) (H .⇛ (fact 𝓤 (Handed v)))
@@ -129,19 +133,19 @@ module _ {M : Type 1} (𝓤 : URA M) (H : Heap 𝓤) (A : Atoms 𝓤) (W : Given
       peeks ! O.the-row (Is O.the-row) (shows 𝓤 H A O.the-row) r (v ∷ []) (λ is. by ! (factI 𝓤 (Handed v) _ (handed r v is says-r))))))
 
   -- what is had at exit
-  exits : (c : Bench) (v : Val) → Applied e h v c → ent 𝓤 (sep 𝓤 (A .obs γ (B.the-row .coded .code c)) (sep 𝓤 (A .bor κ (Body (mem B.the-row) b o γ)) (A .lft κ q))) (Post v)
+  exits : (c : Bench) (v : Val) → Applied Stepped v c → ent 𝓤 (sep 𝓤 (A .obs γ (B.the-row .coded .code c)) (sep 𝓤 (A .bor κ (Body (mem B.the-row) b o γ)) (A .lft κ q))) (Post v)
   exits c v so =
       qed W (‵ (fobs γ (B.the-row .coded .code c)) ∷ ‵ (fbor κ (Body (mem B.the-row) b o γ)) ∷ ‵ (flft κ q) ∷ []) ∵
-      suffices ! _ (ends-at 𝓤 H A apply.ended stayed (apply.clauses 𝓤 H A at-mem run) W (((κ, tt), (q, tt), tt, x, at), tt) v (so .answer) (c, (tt, tt)) (tt, (tt, tt))) $ says ! (so .answered, so .left) $ nothing ! $ move ! (3 ∷ 0 ∷ []) $ join ! $
+      suffices ! _ (ends-at 𝓤 H A apply.ended stayed (apply.clauses 𝓤 H A at-mem run) W (((κ, tt), (q, tt), tt, x, at), tt) v (so .answer) (c, (tt, tt)) (tt, (tt, tt))) $ says ! (so .so) $ nothing ! $ move ! (3 ∷ 0 ∷ []) $ join ! $
       frame ! $ feqI ! (List Val) (vptr b o ∷ []) (vptr b o ∷ []) refl $ fjoin3 ! $ nothing ! $ owned ! E.the-row (Is E.the-row) (LL.makes E.the-type E′.the-plain 𝓤 H A) e _ e-is $ fjoin ! $ move ! (1 ∷ 0 ∷ []) $ fjoin ! $
-      owned ! N.the-row (Is N.the-row) (EL.makes N.the-type N′.the-plain 𝓤 H A) (so .answer) _ (subst (λ (u : Val). Is N.the-row (so .answer) (u ∷ [])) (sym (so .returned .spelled)) (so .returned .is)) $ move ! (1 ∷ 0 ∷ []) $ done !
+      owned ! N.the-row (Is N.the-row) (EL.makes N.the-type N′.the-plain 𝓤 H A) (so .answer) _ (subst (λ (u : Val). Is N.the-row (so .answer) (u ∷ [])) (sym (so .spelled)) (so .is)) $ move ! (1 ∷ 0 ∷ []) $ done !
 
   module _ (C : Calls 𝓤 H) (Λ : Loops 𝓤 H) (fm : FmC 𝓤 H (W .laws) C) (known : Triple 𝓤 (C #event) (Ev 𝓤 H A at-mem run)) where
     walked-thin : ent 𝓤 (onEntry 𝓤 H A apply.signature (κ, tt) (q, tt) x at) (WpFn 𝓤 H C Λ code.function (vptr b o ∷ ev e ∷ []) Post)
     walked-thin =
         qed W ((‵ (flft κ q) ⊛ ‵ ftrue) ∷ ‵ (owns (MutRef (named 0) κ B.the-row ∷ E.the-row ∷ []) x at) ∷ []) ∵ split ! $ move ! (2 ∷ []) $ fsplit ! $ fsplit3 ! $ drop ! $ move ! (0 ∷ 1 ∷ 3 ∷ []) $
         keep ! (0 ∷ 1 ∷ 2 ∷ []) $ by !
-        (walk #event B′.mir (pointee (B.the-row .written)) E′.mir N′.mir (O.the-type .name) fields B.the-row bv (λ c v. Applied e h v c) 𝓤 H A W refl (LL.tells B.the-type B′.the-laws) (LL.makes B.the-type B′.the-plain 𝓤 H A)
+        (walk #event B′.mir (pointee (B.the-row .written)) E′.mir N′.mir (O.the-type .name) fields B.the-row bv (λ c v. Applied Stepped v c) 𝓤 H A W refl (LL.tells B.the-type B′.the-laws) (LL.makes B.the-type B′.the-plain 𝓤 H A)
         (λ c is. LL.lawful B.the-type B′.the-laws 𝓤 H A W .typed c _ is .0) _ _ refl refl C Λ fm κ q b o γ h (ev e) (LL.lawful E.the-type E′.the-laws 𝓤 H A W .typed e _ e-is .0)
         (Ev 𝓤 H A at-mem run .post to-event) (λ is. via 𝓤 _ (goes-event is) (known to-event)) told Post exits)
 

@@ -14,7 +14,7 @@ use Rattle.bench.specs.Setups.{freshAnswer, benchOf, freshBench, freshOf
 use Rattle.bench.specs.Runs.{after, answersTo, eventsIn, endingOf, playedBy, eventsPlayed, written, playedOf, answersAfter}
 use Rattle.bench.specs.Story.{History, historyOf}
 use Rattle.bench.specs.Claim.{Agreement}
-use Rattle.bench.specs.Demands.{historyFrom, playedHistory}
+use Rattle.bench.specs.Demands.{playedHistory}
 use Rattle.bench.specs.declared.bench.Bench.{Bench}
 use Rattle.bench.specs.declared.event.Event.{Event}
 use Rattle.bench.specs.declared.fresh.Fresh.{Fresh}
@@ -25,7 +25,7 @@ use Rattle.bench.specs.declared.play.Played.{Played as PlayedList}
 use Rattle.bench.proofs.play.Ending.{the-type}
 use Rattle.bench.proofs.RunLaws.{length-answers, length-written, played-fits, played-room, history-written}
 use Rattle.bench.proofs.SetupLaws.{limits-ground}
-use Rattle.bench.proofs.Demands.{demand-3}
+use Rattle.bench.proofs.Demands.{historyFrom, agreed}
 use Rattle.bench.proofs.bench.Bench.play.Statement.{statement}
 use Rattle.bench.proofs.bench.Bench.play.Tie as tie
 
@@ -52,7 +52,7 @@ agrees-played n marks bs room =
     let es = eventsPlayed bs (length room) in
     let fits : length (answersTo limits c es) ≤ length room = omega (arith, length-answers limits c es, played-fits bs (length room)) in
     let same : playedHistory bs (written (answersTo limits c es) room) ≡ historyFrom n marks es = ap (λ (m : ℕ). historyOf (eventsPlayed bs m) (written (answersTo limits c es) room)) (length-written (answersTo limits c es) room fits) ∙ history-written limits c es room in
-    subst (λ (H : History). Agreement limits n marks H (after limits c es)) (sym same) (demand-3 .agrees n marks es)
+    subst (λ (H : History). Agreement limits n marks H (after limits c es)) (sym same) (agreed n marks es)
 
 -- the contract, from what each part of the result and the buffer are
 meets : (n : ℕ) (marks bs room out : List ℕ) (b : Bench) (a : FreshAnswer) (e : Ending)
