@@ -43,6 +43,15 @@ event-append bs more h =
       List·getD-append bs more 0 5 (omega (arith, h)),
     )
 
+-- the bench after no event, and after one and then others
+pub after-nil : (L : Limits) (c : Bench) → after L c [] ≡ c
+unfolding after
+after-nil L c = refl
+
+pub after-cons : (L : Limits) (c : Bench) (e : Event) (es : List Event) → after L c (e ∷ es) ≡ after L (stepOf L c e .bench) es
+unfolding after
+after-cons L c e es = refl
+
 -- no events, and one more
 pub events-none : (bs : List ℕ) → eventsIn 0 bs ≡ []
 unfolding eventsIn

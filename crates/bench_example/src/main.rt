@@ -2,9 +2,12 @@
 // for the fresh bench; for each event its number and its answer; for each board its number, letter, round and
 // value; and how many copies are owed in the end.
 ghost use mathlib.Core.Path.{_≡_};
+ghost use mathlib.Core.List.{_∷_};
+ghost use lib.ListN.{replicate};
 ghost use Rattle.delivery.specs.Limits.{limits};
 ghost use Rattle.bench.specs.Setups.{freshBench};
 ghost use Rattle.bench.specs.Effects.{stepOf};
+ghost use Rattle.bench.specs.Runs.{after};
 use bench::Answer;
 use bench::Bench;
 use bench::Ending;
@@ -379,27 +382,47 @@ fn not_played() {
     );
 }
 
-// What the second of two events is answered, on a fresh bench that both are applied to.
-fn second_answer(n: u8, marks: [u8; Bench::BOARDS as usize], first: Event, second: Event) -> Answer
-    ensures { λ r. ⌜ r ≡ stepOf limits (stepOf limits (freshBench limits n marks) first .bench) second .answer ⌝ }
+// What an event is answered on a fresh bench, after another one and after itself so many times.
+fn answer_after(
+    n: u8,
+    marks: [u8; Bench::BOARDS as usize],
+    first: Event,
+    again: Event,
+    times: u8,
+) -> Answer
+    ensures { λ r. ⌜ r ≡ stepOf limits (after limits (freshBench limits n marks) (first ∷ replicate times again)) again .answer ⌝ }
 {
     let mut bench = Bench::fresh(n, marks).bench;
     bench.apply(first);
-    bench.apply(second)
+    let mut k = 0u8;
+    while k < times {
+        bench.apply(again);
+        k += 1;
+    }
+    bench.apply(again)
 }
 
-// The signer of a faulty board is asked for the same signature twice.
-fn asked_twice() {
-    let ask = Event {
-        kind: Event::SIGN,
-        a: 3,
+// A board alone proposes 700. With its third turn it decides, and a fourth is refused.
+fn later_turns() {
+    let propose = Event {
+        kind: Event::PROPOSE,
+        a: 1,
         b: 0,
-        id: 2,
+        id: 0,
         value: 700,
     };
-    write(b"asked for one signature twice\n");
-    let answer = second_answer(3, THIRD, ask, ask);
-    write_answer(2, answer.number());
+    let turn = Event {
+        kind: Event::TURN,
+        a: 1,
+        b: 0,
+        id: 0,
+        value: 0,
+    };
+    write(b"one board: its third turn, and its fourth\n");
+    let third = answer_after(1, NONE, propose, turn, 2);
+    write_answer(4, third.number());
+    let fourth = answer_after(1, NONE, propose, turn, 3);
+    write_answer(5, fourth.number());
 }
 
 fn main() {
@@ -407,5 +430,5 @@ fn main() {
     calls();
     copies();
     not_played();
-    asked_twice();
+    later_turns();
 }
