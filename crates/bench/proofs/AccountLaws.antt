@@ -20,12 +20,12 @@ use Rattle.delivery.specs.declared.delivered.Delivered.{Delivered}
 use Rattle.delivery.proofs.DeliveredLaws.{Whole, deliver-same, deliver-other}
 use Rattle.delivery.specs.Tests.{_and_}
 use Rattle.delivery.proofs.TestLaws.{and-left, and-right, and-in}
-use Rattle.vote.specs.Boards.{isStarted, isDecided, startingWith, hears, propose, suspect, trust}
+use Rattle.vote.specs.Boards.{decisionOf, isStarted, isDecided, startingWith, hears, propose, withSuspected, suspecting as suspectingSet, suspect, trust}
 use Rattle.vote.specs.Announcements.{announce}
 use Rattle.vote.specs.declared.board.Decision.{Decision}
-use Rattle.vote.proofs.StatusLaws.{unstarted-idle, idle-decided, voting-decided, decided-one, decided-decided, decisionOf, decides-status, status-decides}
+use Rattle.vote.proofs.StatusLaws.{unstarted-idle, idle-decided, voting-decided, decided-one, decided-decided, decides-status, status-decides}
 use Rattle.vote.specs.Turns.{positionAfter, statusAfter, turn}
-use Rattle.vote.specs.Calls.{proposal, own-turn, delivery, suspicion, trusting as trustingCall, announcement, called}
+use Rattle.vote.specs.Calls.{Call, proposal, own-turn, delivery, suspicion, trusting as trustingCall, announcement, called}
 use Rattle.vote.specs.declared.board.Board.{Board}
 use Rattle.vote.specs.declared.board.Status.{Status}
 use Rattle.vote.specs.declared.board.Status.the-variants.{Voting, Decided}
@@ -44,7 +44,7 @@ use Rattle.bench.specs.Setups.{Setup}
 use Rattle.bench.specs.Story.{Standing, hearing, hearingSaid, moveOf, saying, believing}
 use Rattle.bench.specs.Claim.{Delivers, Announces, Asks, Sound, Faulty, TurnSigns, TurnDecides}
 use Rattle.bench.specs.declared.bench.Bench.{Bench}
-use Rattle.bench.specs.Effects.{withBoardAt, withSignature, afterTurn, afterHearing}
+use Rattle.bench.specs.Effects.{withBoardAt, withSignature, afterTurn, afterHearing, brought}
 use Rattle.bench.specs.declared.event.Event.{Event}
 use Rattle.bench.proofs.HistoryLaws.{SignsNow, DeliversNow, DecidesNow}
 use Rattle.bench.proofs.LegalLaws.{
@@ -60,7 +60,7 @@ use Rattle.bench.proofs.LegalLaws.{
   legal-signature,
 }
 use Rattle.bench.proofs.ChangeLaws.{Change, keeps-quiet, says, listens, lies, echoed, quiet-by, silent-turn, spoken-turn, heard-turn}
-use Rattle.bench.proofs.FitLaws.{Ground, Fit, board-there}
+use Rattle.bench.proofs.FitLaws.{Ground, Fit, sound-on-bus, faulty-on-bus, board-there}
 use Rattle.bench.proofs.ReadingLaws.{Signs-new, Hears-new, newsOf, signs-itself, unheard}
 use Rattle.bench.proofs.StepLaws.{boardOf}
 
@@ -76,11 +76,11 @@ module _ (L : Limits) (n a : ℕ) (b : Board) (v : b .status ≡ Voting) where
   pub turn-goes : turn L n a b .board .position ≡ positionAfter L (moveOf L n a (standingOf L b)) (b .position)
   turn-goes = ap (λ (t : Turn). t .board .position) (turn-voting L n a b v)
 
-  pub turn-status : turn L n a b .board .status ≡ statusAfter (b .position .round .0) (moveOf L n a (standingOf L b))
+  turn-status : turn L n a b .board .status ≡ statusAfter (b .position .round .0) (moveOf L n a (standingOf L b))
   turn-status = ap (λ (t : Turn). t .board .status) (turn-voting L n a b v)
 
 -- a statement that is heard, as the story has it
-pub hears-hearing : (L : Limits) (d : Delivered) (x : Statement) → Whole L d → isBoard L (x .speaker) ≡ true
+hears-hearing : (L : Limits) (d : Delivered) (x : Statement) → Whole L d → isBoard L (x .speaker) ≡ true
     → isIdentifier (L .identifiers) (x .id .0) ≡ true → heard L d (x .speaker) (x .id .0) ≡ 0
     → heard L (hears L d x) ≡ hearing (heard L d) (x .speaker) (x .id .0) (x .value)
 unfolding hearing
@@ -135,17 +135,7 @@ module _ (L : Limits) (n k : ℕ) (t : Standing) (e : Event) where
   believing-announcement i = rw i
 
   abbrev suspects : ℕ → Standing
-  suspects m =
-      record {
-        position =
-            record {
-              round = t .position .round;
-              estimate = t .position .estimate;
-              stage = t .position .stage;
-              suspected = m;
-            };
-        heard = t .heard;
-      }
+  suspects m = record { position = withSuspected (t .position) m; heard = t .heard }
 
   pub believing-suspicion : e .kind ≡ suspecting → believing L n k t e ≡ suspects (withBoard (t .position .suspected) (e .b))
   unfolding believing if_then_else_
@@ -155,7 +145,7 @@ module _ (L : Limits) (n k : ℕ) (t : Standing) (e : Event) where
   unfolding believing if_then_else_
   believing-trust i = rw i
 
-  pub believing-signature : e .kind ≡ signing → believing L n k t e ≡ t
+  believing-signature : e .kind ≡ signing → believing L n k t e ≡ t
   unfolding believing if_then_else_
   believing-signature i = rw i
 
@@ -184,7 +174,7 @@ module _ (L : Limits) (S : Setup) (g : Ground L S) (c : Bench) (f : Fit L S c) (
   t j = standingOf L (boardAt L c j)
 
   seated-sound : Seated L c e → Sound L S a
-  seated-sound s = subst (λ (m : ℕ). inSet m a ≡ true) (f .same-sound) (s .is-sound)
+  seated-sound s = sound-on-bus L S c f a (s .is-sound)
 
   -- an event that brings no statement
   module _ (m : ℕ) (k₀ : e .kind ≡ m) (n2 : eqb m turning ≡ false) (n3 : eqb m delivering ≡ false) (n7 : eqb m signing ≡ false) where
@@ -256,55 +246,22 @@ module _ (L : Limits) (S : Setup) (g : Ground L S) (c : Bench) (f : Fit L S c) (
             ));
       }
 
-  account-suspicion : (c′ : Bench) → e .kind ≡ suspecting → Seated L c e → c′ ≡ withBoardAt c a (suspect b (e .b))
-      → Account L S c e c′
+  -- a suspicion or trust, by its kind and the call that it is: the boards of the set m are then suspected, and nothing
+  -- else changes
+  account-suspecting : (c′ : Bench) (i : ℕ) (x : Call) (y : Board) (m : ℕ) → e .kind ≡ i
+      → eqb i turning ≡ false → eqb i delivering ≡ false → eqb i announcing ≡ false → eqb i signing ≡ false
+      → called L (c .n) a b x ≡ y → y ≡ suspectingSet b m
+      → believing L (S .n) a (t a) e ≡ record { position = withSuspected (b .position) m; heard = heard L (b .delivered) }
+      → Seated L c e → c′ ≡ withBoardAt c a y → Account L S c e c′
   unfolding quiet-by newsOf boardOf Signs-new Hears-new
-  account-suspicion c′ k s i =
-      let p = suspect-adds b (e .b) in
-      let q = called-suspicion L (c .n) a b (e .b) in
+  account-suspecting c′ i x y m k n2 n3 n4 n7 q p w s j =
+      let o : called L (c .n) a b x .status ≡ b .status = ap (λ (z : Board). z .status) (q ∙ p) in
       record {
-        change = quiet-by L c e (suspicion (e .b)) (suspect b (e .b)) c′ s q (ap (λ (y : Board). y .delivered) p) i;
-        signs = no-signs suspecting k refl refl refl;
-        hears-it = no-hears suspecting k refl refl refl;
-        stands = believing-suspicion L (S .n) a (t a) e k ∙ sym (ap (standingOf L) (q ∙ p));
-        decides =
-            λ r w.
-            same-status
-            suspecting
-            k
-            refl
-            refl
-            _
-            r
-            w
-            (λ (d : Decision).
-            let o : called L (c .n) a b (suspicion (e .b)) .status ≡ b .status = ap (λ (y : Board). y .status) (q ∙ p) in
-            (λ j. sym o ∙ j, λ j. o ∙ j));
-      }
-
-  account-trust : (c′ : Bench) → e .kind ≡ trusting → Seated L c e → c′ ≡ withBoardAt c a (trust b (e .b)) → Account L S c e c′
-  unfolding quiet-by newsOf boardOf Signs-new Hears-new
-  account-trust c′ k s i =
-      let p = trust-drops b (e .b) in
-      let q = called-trusting L (c .n) a b (e .b) in
-      record {
-        change = quiet-by L c e (trustingCall (e .b)) (trust b (e .b)) c′ s q (ap (λ (y : Board). y .delivered) p) i;
-        signs = no-signs trusting k refl refl refl;
-        hears-it = no-hears trusting k refl refl refl;
-        stands = believing-trust L (S .n) a (t a) e k ∙ sym (ap (standingOf L) (q ∙ p));
-        decides =
-            λ r w.
-            same-status
-            trusting
-            k
-            refl
-            refl
-            _
-            r
-            w
-            (λ (d : Decision).
-            let o : called L (c .n) a b (trustingCall (e .b)) .status ≡ b .status = ap (λ (y : Board). y .status) (q ∙ p) in
-            (λ j. sym o ∙ j, λ j. o ∙ j));
+        change = quiet-by L c e x y c′ s q (ap (λ (z : Board). z .delivered) p) j;
+        signs = no-signs i k n2 n3 n7;
+        hears-it = no-hears i k n2 n3 n7;
+        stands = w ∙ sym (ap (standingOf L) (q ∙ p));
+        decides = λ r v. same-status i k n2 n4 _ r v (λ (d : Decision). (λ h. sym o ∙ h, λ h. o ∙ h));
       }
 
   account-announcement : (c′ : Bench) → e .kind ≡ announcing → Seated L c e → Convinced L (c .n) b (e .id) (e .value)
@@ -367,11 +324,11 @@ module _ (L : Limits) (S : Setup) (g : Ground L S) (c : Bench) (f : Fit L S c) (
         decides = λ r v. same-status signing k refl refl (b .status) r v (λ (d : Decision). (λ j. j, λ j. j));
       }
     where
-      unsound : inSet (S .sound) a ≡ false
-      unsound = subst (λ (m : ℕ). inSet m a ≡ false) (f .same-sound) s
+      faulty : Faulty L S a
+      faulty = faulty-on-bus L S c f a w s
 
       apart : (j : ℕ) → j ≡ a → Sound L S j → ⊥
-      apart j i p = true≢false (sym p ∙ ap (inSet (S .sound)) i ∙ unsound)
+      apart j i p = true≢false (sym p ∙ ap (inSet (S .sound)) i ∙ faulty .1)
 
       asked : (k i v : ℕ) → SignsNow L S t e k i v ↔ ((k ≡ a) × (i ≡ e .id) × (v ≡ e .value))
       asked k′ i′ v′ = (
@@ -380,10 +337,7 @@ module _ (L : Limits) (S : Setup) (g : Ground L S) (c : Bench) (f : Fit L S c) (
             (λ (p : Faulty L S k′ × Asks e k′ i′ v′). (sym (p .1 .board), sym (p .1 .id), sym (p .1 .value))),
         λ (p : (k′ ≡ a) × (i′ ≡ e .id) × (v′ ≡ e .value)).
             inr (
-              (
-                subst⁻¹ (λ (m : ℕ). isWithin (S .n) m ≡ true) (p .0) (subst (λ (m : ℕ). isWithin m a ≡ true) (f .same-n) w),
-                ap (inSet (S .sound)) (p .0) ∙ unsound,
-              ),
+              subst⁻¹ (Faulty L S) (p .0) faulty,
               record { kind = k; board = sym (p .0); id = sym (p .1); value = sym (p .2) },
             ),
       )
@@ -391,10 +345,10 @@ module _ (L : Limits) (S : Setup) (g : Ground L S) (c : Bench) (f : Fit L S c) (
   account-delivery : (c′ : Bench) → e .kind ≡ delivering → Seated L c e → isWithin (c .n) (e .b) ≡ true
       → isIdentifier (L .identifiers) (e .id) ≡ true → signedBy L c (e .b) (e .id) ≡ entryOf (e .value)
       → heardBy L c a (e .b) (e .id) ≡ 0
-      → c′ ≡ afterHearing L c a (record { speaker = e .b; id = record { 0 = e .id }; value = e .value }) → Account L S c e c′
+      → c′ ≡ afterHearing L c a (brought e) → Account L S c e c′
   unfolding newsOf boardOf Signs-new Hears-new afterHearing
   account-delivery c′ k s w z o n i =
-      let x : Statement = record { speaker = e .b; id = record { 0 = e .id }; value = e .value } in
+      let x = brought e in
       let q = called-delivery L (c .n) a b x in
       let p = deliver-hears L b x in
       record {
@@ -609,6 +563,38 @@ module _ (L : Limits) (S : Setup) (g : Ground L S) (c : Bench) (f : Fit L S c) (
       go (speaks x w n d l) = spoken-account k s v c′ i x w n (o x n) d
   legal-account c′ (legal-delivery k s w z o n i) = account-delivery c′ k s w z o n i
   legal-account c′ (legal-announcement k s w i) = account-announcement c′ k s w i
-  legal-account c′ (legal-suspicion k s i) = account-suspicion c′ k s i
-  legal-account c′ (legal-trust k s i) = account-trust c′ k s i
+  legal-account c′ (legal-suspicion k s i) =
+      account-suspecting
+      c′
+      suspecting
+      (suspicion (e .b))
+      (suspect b (e .b))
+      (withBoard (b .position .suspected) (e .b))
+      k
+      refl
+      refl
+      refl
+      refl
+      (called-suspicion L (c .n) a b (e .b))
+      (suspect-adds b (e .b))
+      (believing-suspicion L (S .n) a (t a) e k)
+      s
+      i
+  legal-account c′ (legal-trust k s i) =
+      account-suspecting
+      c′
+      trusting
+      (trustingCall (e .b))
+      (trust b (e .b))
+      (withoutBoard (b .position .suspected) (e .b))
+      k
+      refl
+      refl
+      refl
+      refl
+      (called-trusting L (c .n) a b (e .b))
+      (trust-drops b (e .b))
+      (believing-trust L (S .n) a (t a) e k)
+      s
+      i
   legal-account c′ (legal-signature k s w o i) = account-signature c′ k s w o i

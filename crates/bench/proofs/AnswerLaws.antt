@@ -8,7 +8,7 @@ use mathlib.Core.Logic.{_⊎_, inl, inr, ⊎-elim}
 use Rattle.signer.proofs.ChoiceLaws.{if-true, if-false}
 use Rattle.delivery.specs.Limits.{Limits}
 use Rattle.delivery.proofs.TestLaws.{decided}
-use Rattle.vote.specs.Turns.{numberOf}
+use Rattle.vote.specs.Turns.{turnNumber}
 use Rattle.vote.proofs.TurnLaws.{number-within, number-some, idle-not, ended-not, waiting-not}
 use Rattle.vote.specs.declared.turn.Answer.the-variants.{Done, NotStarted, Ended, Waiting}
 use Rattle.bench.specs.Answers.{freshNumber, answerNumber, isAccepted}
@@ -40,15 +40,15 @@ use Rattle.bench.specs.declared.answer.Answer.the-variants.{
 -- what a board answers to a turn that it does not take refuses the event
 pub start-refused : isAccepted WrongStart ≡ false
 unfolding isAccepted answerNumber
-start-refused = ne-eqb (numberOf NotStarted) 0 (λ e. idle-not (number-some NotStarted e))
+start-refused = ne-eqb (turnNumber NotStarted) 0 (λ e. idle-not (number-some NotStarted e))
 
 pub end-refused : isAccepted AtEnd ≡ false
 unfolding isAccepted answerNumber
-end-refused = ne-eqb (numberOf Ended) 0 (λ e. ended-not (number-some Ended e))
+end-refused = ne-eqb (turnNumber Ended) 0 (λ e. ended-not (number-some Ended e))
 
 pub wait-refused : isAccepted MustWait ≡ false
 unfolding isAccepted answerNumber
-wait-refused = ne-eqb (numberOf Waiting) 0 (λ e. waiting-not (number-some Waiting e))
+wait-refused = ne-eqb (turnNumber Waiting) 0 (λ e. waiting-not (number-some Waiting e))
 
 -- an accepted event has its effect and is answered 0; a refused one leaves the bench as it was, and is not answered 0
 module _ (L : Limits) (c : Bench) (e : Event) where

@@ -7,6 +7,7 @@ use mathlib.Core.Bool.{true, false}
 use mathlib.Core.List.{List, [], _∷_, _++_, append-nil, append-assoc}
 use mathlib.Core.Logic.{_⊎_, inl, inr}
 use Rattle.signer.specs.Log.{isIdentifier, entryOf}
+use Rattle.signer.proofs.LogLaws.{entry-some}
 use Rattle.signer.proofs.FromOneLaws.{within-low}
 use Rattle.signer.specs.Signer.{grants}
 use Rattle.signer.proofs.SignerLaws.{grants-above}
@@ -21,7 +22,7 @@ use Rattle.delivery.proofs.AgreementLaws.{Won, won-opened, won-one}
 use Rattle.vote.specs.Turns.{turn}
 use Rattle.vote.specs.declared.statement.Statement.{Statement}
 use Rattle.vote.specs.declared.statement.Said.the-variants.{One}
-use Rattle.vote.proofs.StatusLaws.{decisionOf}
+use Rattle.vote.specs.Boards.{decisionOf}
 use Rattle.vote.proofs.ProperLaws.{voting-round}
 use Rattle.vote.proofs.SigningLaws.{Signs, signs-opening, signs-ballot, due, signs-due, turn-signs}
 use Rattle.bench.specs.Benches.{isSound, boardAt, signerAt, heardBy, signedBy}
@@ -32,14 +33,14 @@ use Rattle.bench.specs.Effects.{effectOf, stepOf}
 use Rattle.bench.specs.Runs.{after, answersTo}
 use Rattle.bench.specs.Shows.{decidedAs, shown}
 use Rattle.bench.specs.Story.{Entry, History, historyOf}
-use Rattle.bench.specs.Claim.{Sound, Delivered, Decided, Origin, NothingOwed, AllAlike, Shows, Agreement}
+use Rattle.bench.specs.Claim.{Delivered, Decided, Origin, NothingOwed, AllAlike, Shows, Agreement}
 use Rattle.bench.specs.declared.bench.Bench.{Bench}
 use Rattle.bench.specs.declared.event.Event.{Event}
 use Rattle.bench.proofs.AnswerLaws.{step-accepted, step-refused}
 use Rattle.bench.proofs.MomentLaws.{_then_}
 use Rattle.bench.proofs.LegalLaws.{Legal, accepted-legal}
-use Rattle.bench.proofs.FitLaws.{Ground, Fit, Lacking, heard-signed, sound-within}
-use Rattle.bench.proofs.StepLaws.{suc-zero, change-fit}
+use Rattle.bench.proofs.FitLaws.{Ground, Fit, Lacking, heard-signed, sound-within, sound-on-bus, sound-on-bench}
+use Rattle.bench.proofs.StepLaws.{change-fit}
 use Rattle.bench.proofs.AccountLaws.{Account, legal-account}
 use Rattle.bench.proofs.TellsLaws.{Tells, tells-refused, tells-accepted}
 use Rattle.bench.proofs.OriginLaws.{Rooted, rooted-refused, opened-origin, rooted-accepted}
@@ -136,20 +137,17 @@ module _ (L : Limits) (S : Setup) (g : Ground L S) where
       where
         go : (x : ℕ) → heardBy L c (y .fit .owed-lacking k s i t .holder) s i ≡ x → (v : ℕ) × (signedBy L c s i ≡ entryOf v)
         go zero e = absurd (y .fit .owed-lacking k s i t .holder-has e)
-        go (suc v) e = (v, y .fit .told (y .fit .owed-lacking k s i t .holder) s i v e)
+        go (suc v) e = (v, y .fit .heard-was-signed (y .fit .owed-lacking k s i t .holder) s i v e)
 
     -- where no copy is owed, what one sound board has heard every other has
     all-alike : NothingOwed L S H → AllAlike L S H
     all-alike n j k p q s i v d = go (heardBy L c k s i) refl
       where
-        sound : (m : ℕ) → Sound L S m → isSound c m ≡ true
-        sound m u = subst⁻¹ (λ (x : ℕ). inSet x m ≡ true) (y .fit .same-sound) u
-
         has : heardBy L c j s i ≡ entryOf v
         has = y .tells .delivered j s i v .0 d
 
         signed : signedBy L c s i ≡ entryOf v
-        signed = y .fit .told j s i v has
+        signed = y .fit .heard-was-signed j s i v has
 
         go : (x : ℕ) → heardBy L c k s i ≡ x → Delivered L S H k s i v
         go zero e =
@@ -165,23 +163,23 @@ module _ (L : Limits) (S : Setup) (g : Ground L S) where
                   s
                   i
                   (record {
-                    is-sound = sound k q;
+                    is-sound = sound-on-bench L S c (y .fit) k q;
                     other =
                         λ (m : k ≡ s).
-                        suc-zero
+                        entry-some
                         v
-                        (sym (y .fit .own k i v (sound k q) (ap (λ (x : ℕ). signedBy L c x i) m ∙ signed))
+                        (sym (y .fit .own k i v (sound-on-bench L S c (y .fit) k q) (ap (λ (x : ℕ). signedBy L c x i) m ∙ signed))
                         ∙ ap (λ (x : ℕ). heardBy L c k x i) m
                         ∙ e);
                     not-heard = e;
                     holder = j;
-                    holder-sound = sound j p;
-                    holder-has = λ z. suc-zero v (sym has ∙ z);
+                    holder-sound = sound-on-bench L S c (y .fit) j p;
+                    holder-has = λ z. entry-some v (sym has ∙ z);
                   }),
               signed,
             )))
         go (suc u) e =
-            let m : entryOf u ≡ entryOf v = sym (y .fit .told k s i u e) ∙ signed in
+            let m : entryOf u ≡ entryOf v = sym (y .fit .heard-was-signed k s i u e) ∙ signed in
             y .tells .delivered k s i v .1 (e ∙ m)
 
     nothing-owed : AllAlike L S H → NothingOwed L S H
@@ -190,21 +188,18 @@ module _ (L : Limits) (S : Setup) (g : Ground L S) where
         let l = y .fit .owed-lacking k s i (t .0) in
         go l (heardBy L c (l .holder) s i) refl
       where
-        on-bus : (m : ℕ) → isSound c m ≡ true → Sound L S m
-        on-bus m u = subst (λ (x : ℕ). inSet x m ≡ true) (y .fit .same-sound) u
-
         go : (l : Lacking L c k s i) (x : ℕ) → heardBy L c (l .holder) s i ≡ x → ⊥
         go l zero e = l .holder-has e
         go l (suc u) e =
-            suc-zero
+            entry-some
             u
             (sym
             (y .tells .delivered k s i u .0
             (n
             (l .holder)
             k
-            (on-bus (l .holder) (l .holder-sound))
-            (on-bus k (l .is-sound))
+            (sound-on-bus L S c (y .fit) (l .holder) (l .holder-sound))
+            (sound-on-bus L S c (y .fit) k (l .is-sound))
             s
             i
             u

@@ -8,7 +8,7 @@ use Rattle.vote.specs.Boards.{propose, suspect, trust}
 use Rattle.vote.specs.Announcements.{announce}
 use Rattle.bench.specs.Events.{proposing, turning, delivering, announcing, suspecting, trusting}
 use Rattle.bench.specs.Benches.{boardAt}
-use Rattle.bench.specs.Effects.{withBoardAt, withSignature, afterTurn, afterHearing, effectOf}
+use Rattle.bench.specs.Effects.{withBoardAt, withSignature, afterTurn, afterHearing, brought, effectOf}
 use Rattle.bench.specs.declared.bench.Bench.{Bench}
 use Rattle.bench.specs.declared.event.Event.{Event}
 
@@ -22,7 +22,7 @@ module _ (L : Limits) (c : Bench) (e : Event) where
   effect-turning k = rw k
 
   pub effect-delivering : e .kind ≡ delivering
-      → effectOf L c e ≡ afterHearing L c (e .a) (record { speaker = e .b; id = record { 0 = e .id }; value = e .value })
+      → effectOf L c e ≡ afterHearing L c (e .a) (brought e)
   unfolding effectOf if_then_else_
   effect-delivering k = rw k
 

@@ -24,6 +24,7 @@ use Rattle.vote.proofs.SigningLaws.{due}
 use Rattle.vote.proofs.LifeLaws.{Grounded}
 use Rattle.bench.specs.Benches.{isSound, boardAt, signerAt, heardBy, signedBy}
 use Rattle.bench.specs.Setups.{Setup}
+use Rattle.bench.specs.Claim.{Sound, Faulty}
 use Rattle.bench.specs.declared.bench.Bench.{Bench}
 
 -- two numbers are the same or not
@@ -62,12 +63,26 @@ pub record Fit (L : Limits) (S : Setup) (c : Bench) : Type 0 where
   -- a board that is not sound takes no part
   pub apart : (k : ℕ) → isSound c k ≡ false → boardAt L c k ≡ freshBoard L
   -- what is heard was signed; a sound board has heard what it signed, and signs next above that
-  pub told : (k s i v : ℕ) → heardBy L c k s i ≡ entryOf v → signedBy L c s i ≡ entryOf v
+  pub heard-was-signed : (k s i v : ℕ) → heardBy L c k s i ≡ entryOf v → signedBy L c s i ≡ entryOf v
   pub own : (k i v : ℕ) → isSound c k ≡ true → signedBy L c k i ≡ entryOf v → heardBy L c k k i ≡ entryOf v
   pub ahead : (k : ℕ) → isSound c k ≡ true → signerAt L c k .last .0 ≤ due L (boardAt L c k) - 1
   -- copies are owed to those that lack a statement which a sound board has, and to no others
   pub owed-lacking : (k s i : ℕ) → inSet (receivers L (c .owed) s i) k ≡ true → Lacking L c k s i
   pub lacking-owed : (k s i : ℕ) → Lacking L c k s i → inSet (receivers L (c .owed) s i) k ≡ true
+
+-- the boards that are sound, or faulty, on the bench are so on the bus
+module _ (L : Limits) (S : Setup) (c : Bench) (f : Fit L S c) where
+  pub sound-on-bus : (k : ℕ) → isSound c k ≡ true → Sound L S k
+  sound-on-bus k t = subst (λ (m : ℕ). inSet m k ≡ true) (f .same-sound) t
+
+  pub sound-on-bench : (k : ℕ) → Sound L S k → isSound c k ≡ true
+  sound-on-bench k t = subst⁻¹ (λ (m : ℕ). inSet m k ≡ true) (f .same-sound) t
+
+  pub faulty-on-bus : (k : ℕ) → isWithin (c .n) k ≡ true → isSound c k ≡ false → Faulty L S k
+  faulty-on-bus k w t = (
+    subst (λ (m : ℕ). isWithin m k ≡ true) (f .same-n) w,
+    subst (λ (m : ℕ). inSet m k ≡ false) (f .same-sound) t,
+  )
 
 module _ (L : Limits) (S : Setup) (g : Ground L S) (c : Bench) (f : Fit L S c) where
   -- a board of the bus is one of those that there can be
@@ -81,10 +96,7 @@ module _ (L : Limits) (S : Setup) (g : Ground L S) (c : Bench) (f : Fit L S c) w
 
   pub sound-within : (k : ℕ) → isSound c k ≡ true → isWithin (c .n) k ≡ true
   sound-within k t =
-      subst⁻¹
-      (λ (m : ℕ). isWithin m k ≡ true)
-      (f .same-n)
-      (g .members k (subst (λ (m : ℕ). inSet m k ≡ true) (f .same-sound) t))
+      subst⁻¹ (λ (m : ℕ). isWithin m k ≡ true) (f .same-n) (g .members k (sound-on-bus L S c f k t))
 
   -- every board has heard a part of what was signed
   pub heard-signed : (k : ℕ) → Grows (heardBy L c k) (signedBy L c)
@@ -95,4 +107,4 @@ module _ (L : Limits) (S : Setup) (g : Ground L S) (c : Bench) (f : Fit L S c) w
     where
       go : (s i x : ℕ) → heardBy L c k s i ≡ x → (heardBy L c k s i ≡ 0 → ⊥) → signedBy L c s i ≡ heardBy L c k s i
       go s i zero e z = absurd (z e)
-      go s i (suc v) e z = f .told k s i v e ∙ sym e
+      go s i (suc v) e z = f .heard-was-signed k s i v e ∙ sym e

@@ -5,7 +5,7 @@ use mathlib.Core.Path.{_≡_, sym, ap, subst}
 use mathlib.Core.Logic.{_⊎_, inl, inr, ⊎-elim}
 use Rattle.delivery.specs.Limits.{Limits}
 use Rattle.bench.specs.Setups.{Setup}
-use Rattle.bench.specs.Story.{Entry, History, Standing, at}
+use Rattle.bench.specs.Story.{Entry, History, Standing, standingAfter}
 use Rattle.bench.specs.Claim.{Once, Delivers, Announces, Asks, Sound, Faulty, TurnSigns, TurnDecides, SignedInTurn, Asked, Signed, Reached, Delivered, Decided, Spreads, Owed}
 use Rattle.bench.specs.declared.event.Event.{Event}
 use Rattle.bench.proofs.MomentLaws.{accepted, _then_, Place, stands-last, stands-earlier, place, earlier, latest, once-kept, once-cases, once-new, once-none}
@@ -23,7 +23,7 @@ module _ (L : Limits) (S : Setup) (t : ℕ → Standing) (e : Event) where
 
 module _ (L : Limits) (S : Setup) (H : History) (x : Entry) where
   abbrev stands : ℕ → Standing
-  stands k = at L (S .n) k H
+  stands k = standingAfter L (S .n) k H
 
   pub signed-kept : (k i v : ℕ) → Signed L S H k i v → Signed L S (H then x) k i v
   signed-kept k i v =
@@ -39,7 +39,7 @@ module _ (L : Limits) (S : Setup) (H : History) (x : Entry) where
       ⊎-elim
       (λ (p : SignedInTurn L S H k i v). inl (inl (o .0, p)))
       (λ (p : (x .answer ≡ 0) × TurnSigns L S (stands k) (x .event) k i v). inr (p .0, inl (o .0, p .1)))
-      (once-cases H x (λ (B : History) (e : Event). TurnSigns L S (at L (S .n) k B) e k i v) (o .1)))
+      (once-cases H x (λ (B : History) (e : Event). TurnSigns L S (standingAfter L (S .n) k B) e k i v) (o .1)))
       (λ (o : Faulty L S k × Asked L S (H then x) k i v).
       ⊎-elim
       (λ (p : Asked L S H k i v). inl (inr (o .0, p)))
@@ -76,7 +76,7 @@ module _ (L : Limits) (S : Setup) (H : History) (x : Entry) where
     d .0,
     ⊎-elim
         (λ (o : Once H (λ (B : History) (e : Event). Announces e k r v)). inl (once-kept H x _ o))
-        (λ (o : Once H (λ (B : History) (e : Event). TurnDecides L S (at L (S .n) k B) e k r v)). inr (once-kept H x _ o))
+        (λ (o : Once H (λ (B : History) (e : Event). TurnDecides L S (standingAfter L (S .n) k B) e k r v)). inr (once-kept H x _ o))
         (d .1),
   )
 
@@ -89,11 +89,11 @@ module _ (L : Limits) (S : Setup) (H : History) (x : Entry) where
       (λ (p : Once H (λ (B : History) (e : Event). Announces e k r v)). inl (d .0, inl p))
       (λ (p : (x .answer ≡ 0) × Announces (x .event) k r v). inr (p .0, (d .0, inl (p .1))))
       (once-cases H x (λ (B : History) (e : Event). Announces e k r v) o))
-      (λ (o : Once (H then x) (λ (B : History) (e : Event). TurnDecides L S (at L (S .n) k B) e k r v)).
+      (λ (o : Once (H then x) (λ (B : History) (e : Event). TurnDecides L S (standingAfter L (S .n) k B) e k r v)).
       ⊎-elim
-      (λ (p : Once H (λ (B : History) (e : Event). TurnDecides L S (at L (S .n) k B) e k r v)). inl (d .0, inr p))
+      (λ (p : Once H (λ (B : History) (e : Event). TurnDecides L S (standingAfter L (S .n) k B) e k r v)). inl (d .0, inr p))
       (λ (p : (x .answer ≡ 0) × TurnDecides L S (stands k) (x .event) k r v). inr (p .0, (d .0, inr (p .1))))
-      (once-cases H x (λ (B : History) (e : Event). TurnDecides L S (at L (S .n) k B) e k r v) o))
+      (once-cases H x (λ (B : History) (e : Event). TurnDecides L S (standingAfter L (S .n) k B) e k r v) o))
       (d .1)
 
   -- a copy stays owed unless the entry delivers it
@@ -130,10 +130,10 @@ module _ (L : Limits) (S : Setup) (H : History) (x : Entry) where
           (o .is-sound)
           (o .other)
           (subst
-          (λ (B : History). Spreads L S (at L (S .n) s B) (x .event) k s i v)
+          (λ (B : History). Spreads L S (standingAfter L (S .n) s B) (x .event) k s i v)
           b
           (subst
-          (λ (e : Event). Spreads L S (at L (S .n) s (o .moment .before)) e k s i v)
+          (λ (e : Event). Spreads L S (standingAfter L (S .n) s (o .moment .before)) e k s i v)
           (ap (λ (w : Entry). w .event) j)
           (o .spreads)))
           (λ (d : Delivered L S H k s i v). o .not-before (subst (λ (B : History). Delivered L S B k s i v) (sym b) d))
@@ -165,7 +165,7 @@ module _ (L : Limits) (S : Setup) (H : History) (x : Entry) where
 -- the same of an entry that was answered 0
 module _ (L : Limits) (S : Setup) (H : History) (e : Event) where
   abbrev stood : ℕ → Standing
-  stood k = at L (S .n) k H
+  stood k = standingAfter L (S .n) k H
 
   pub signed-new : (k i v : ℕ) → SignsNow L S stood e k i v → Signed L S (H then accepted e) k i v
   signed-new k i v =

@@ -31,7 +31,7 @@ use Rattle.bench.specs.Events.{proposing, turning, delivering, announcin
 use Rattle.bench.specs.Benches.{isSound, boardAt, signerAt, heardBy, signedBy}
 use Rattle.bench.specs.Answers.{answerNumber, isAccepted}
 use Rattle.bench.specs.Table.{kindRow, boardsRow, wrongId, wrongValue, fieldsRow, markRow, startRow, endRow, signedRow, lastRow, deliveredRow, ballotsRow, refuses, turnRow, firstOf, checkOf}
-use Rattle.bench.specs.Effects.{withBoardAt, withSignature, afterTurn, afterHearing, effectOf}
+use Rattle.bench.specs.Effects.{withBoardAt, withSignature, afterTurn, afterHearing, brought, effectOf}
 use Rattle.bench.proofs.AnswerLaws.{start-refused, end-refused, wait-refused}
 use Rattle.bench.proofs.TableLaws.{delivers-other, boards-a, boards-b, first-takes, first-skips}
 use Rattle.bench.proofs.EffectLaws.{
@@ -56,7 +56,7 @@ first-passed row rows f t = go (row .0) refl
     go true e = absurd (true≢false (sym t ∙ ap isAccepted (first-takes (row .0) (row .1) rows e) ∙ f))
     go false e = (e, sym (ap isAccepted (first-skips (row .0) (row .1) rows e)) ∙ t)
 
--- no row of the table applies to e
+-- e passed the table: of its rows, those that something later needs (14 and 20 are not among them)
 pub record Passed (L : Limits) (c : Bench) (e : Event) : Type 0 where
   pub kind : kindRow e ≡ false
   pub boards : boardsRow c e ≡ false
@@ -79,25 +79,25 @@ accepted-passed L c e t =
     let p4 = first-passed _ _ refl (p3 .1) in
     let p5 = first-passed _ _ refl (p4 .1) in
     let p6 = first-passed _ _ start-refused (p5 .1) in
-    let p8 = first-passed _ _ end-refused (p6 .1) in
+    let p7 = first-passed _ _ end-refused (p6 .1) in
+    let p8 = first-passed _ _ refl (p7 .1) in
     let p9 = first-passed _ _ refl (p8 .1) in
     let p10 = first-passed _ _ refl (p9 .1) in
     let p11 = first-passed _ _ refl (p10 .1) in
     let p12 = first-passed _ _ refl (p11 .1) in
-    let p13 = first-passed _ _ refl (p12 .1) in
-    let p14 = first-passed _ _ wait-refused (p13 .1) in
+    let p13 = first-passed _ _ wait-refused (p12 .1) in
     record {
       kind = p1 .0;
       boards = p2 .0;
       fields = p3 .0;
       mark = p4 .0;
       start = p6 .0;
-      end = p8 .0;
-      signed = p9 .0;
-      last = p10 .0;
-      delivered = p11 .0;
-      ballots = p13 .0;
-      turn = p14 .0;
+      end = p7 .0;
+      signed = p8 .0;
+      last = p9 .0;
+      delivered = p10 .0;
+      ballots = p12 .0;
+      turn = p13 .0;
     }
 
 -- an event has one kind
@@ -143,7 +143,7 @@ module _ (L : Limits) (c : Bench) (e : Event) where
         → c′ ≡ afterTurn L c (e .a) → Legal c′
     legal-delivery : e .kind ≡ delivering → Seated → isWithin (c .n) (e .b) ≡ true → isIdentifier (L .identifiers) (e .id) ≡ true
         → signedBy L c (e .b) (e .id) ≡ entryOf (e .value) → heardBy L c (e .a) (e .b) (e .id) ≡ 0
-        → c′ ≡ afterHearing L c (e .a) (record { speaker = e .b; id = record { 0 = e .id }; value = e .value }) → Legal c′
+        → c′ ≡ afterHearing L c (e .a) (brought e) → Legal c′
     legal-announcement : e .kind ≡ announcing → Seated → Convinced L (c .n) me (e .id) (e .value)
         → c′ ≡ withBoardAt c (e .a) (announce L (c .n) me (e .id) (e .value)) → Legal c′
     legal-suspicion : e .kind ≡ suspecting → Seated → c′ ≡ withBoardAt c (e .a) (suspect me (e .b)) → Legal c′

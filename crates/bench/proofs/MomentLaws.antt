@@ -9,7 +9,7 @@ use mathlib.Core.Logic.{_⊎_, inl, inr}
 use Rattle.signer.proofs.ChoiceLaws.{if-true, if-false}
 use Rattle.delivery.specs.Limits.{Limits}
 use Rattle.delivery.proofs.TestLaws.{and-in, and-no-left, and-no-right}
-use Rattle.bench.specs.Story.{Entry, History, Standing, believing, told, toldFrom, at, outset}
+use Rattle.bench.specs.Story.{Entry, History, Standing, believing, afterEntry, afterEntries, standingAfter, outset}
 use Rattle.bench.specs.Claim.{Moment, Once}
 use Rattle.bench.specs.declared.event.Event.{Event}
 
@@ -112,28 +112,28 @@ once-none P o = moment-none (o .moment)
 
 -- where a board stands after one entry more
 module _ (L : Limits) (n k : ℕ) where
-  from-last : (t : Standing) (H : History) (x : Entry) → toldFrom L n k t (H then x) ≡ told L n k (toldFrom L n k t H) x
-  unfolding toldFrom
+  from-last : (t : Standing) (H : History) (x : Entry) → afterEntries L n k t (H then x) ≡ afterEntry L n k (afterEntries L n k t H) x
+  unfolding afterEntries
   from-last t [] x = refl
-  from-last t (y ∷ H) x = from-last (told L n k t y) H x
+  from-last t (y ∷ H) x = from-last (afterEntry L n k t y) H x
 
-  pub at-last : (H : History) (x : Entry) → at L n k (H then x) ≡ told L n k (at L n k H) x
-  unfolding at
-  at-last H x = from-last outset H x
+  pub standing-last : (H : History) (x : Entry) → standingAfter L n k (H then x) ≡ afterEntry L n k (standingAfter L n k H) x
+  unfolding standingAfter
+  standing-last H x = from-last outset H x
 
-  pub at-none : at L n k [] ≡ outset
-  unfolding at toldFrom
-  at-none = refl
+  pub standing-none : standingAfter L n k [] ≡ outset
+  unfolding standingAfter afterEntries
+  standing-none = refl
 
   -- a refused event says nothing, nor does one for another board; any other is believed
-  pub told-refused : (t : Standing) (x : Entry) → (x .answer ≡ 0 → ⊥) → told L n k t x ≡ t
-  unfolding told
-  told-refused t x f = if-false _ _ _ (and-no-left _ _ (ne-eqb (x .answer) 0 f))
+  pub standing-refused : (t : Standing) (x : Entry) → (x .answer ≡ 0 → ⊥) → afterEntry L n k t x ≡ t
+  unfolding afterEntry
+  standing-refused t x f = if-false _ _ _ (and-no-left _ _ (ne-eqb (x .answer) 0 f))
 
-  pub told-other : (t : Standing) (x : Entry) → (x .event .a ≡ k → ⊥) → told L n k t x ≡ t
-  unfolding told
-  told-other t x f = if-false _ _ _ (and-no-right _ _ (ne-eqb (x .event .a) k f))
+  pub standing-other : (t : Standing) (x : Entry) → (x .event .a ≡ k → ⊥) → afterEntry L n k t x ≡ t
+  unfolding afterEntry
+  standing-other t x f = if-false _ _ _ (and-no-right _ _ (ne-eqb (x .event .a) k f))
 
-  pub told-own : (t : Standing) (e : Event) → e .a ≡ k → told L n k t (accepted e) ≡ believing L n k t e
-  unfolding told
-  told-own t e i = if-true _ _ _ (and-in (eqb 0 0) (eqb (e .a) k) refl (eq-eqb (e .a) k i))
+  pub standing-own : (t : Standing) (e : Event) → e .a ≡ k → afterEntry L n k t (accepted e) ≡ believing L n k t e
+  unfolding afterEntry
+  standing-own t e i = if-true _ _ _ (and-in (eqb 0 0) (eqb (e .a) k) refl (eq-eqb (e .a) k i))

@@ -4,12 +4,11 @@ use Prim.Native.Nat.{ℕ, _≤_}
 use mathlib.Core.Path.{_≡_, refl, sym, ap, subst, subst⁻¹, _∙_}
 use mathlib.Core.Bool.{true, false, true≢false}
 use mathlib.Core.Logic.{_⊎_, inl, inr, ⊎-elim}
-use Rattle.signer.specs.FromOne.{isWithin}
 use Rattle.signer.specs.Log.{entryOf}
+use Rattle.signer.proofs.LogLaws.{entry-some}
 use Rattle.signer.proofs.FromOneLaws.{within-in, within-zero}
 use Rattle.delivery.specs.Limits.{Limits}
 use Rattle.delivery.specs.Rounds.{isRound, coordinator, identifierOf}
-use Rattle.delivery.specs.Sets.{inSet}
 use Rattle.delivery.specs.declared.round.Phase.the-variants.{Opening}
 use Rattle.delivery.proofs.TestLaws.{decided}
 use Rattle.delivery.proofs.RoundLaws.{coordinator-in, identifier-none, openings-apart}
@@ -36,9 +35,9 @@ use Rattle.bench.specs.declared.event.Event.{Event}
 use Rattle.bench.proofs.MomentLaws.{accepted, _then_, once-kept, once-new}
 use Rattle.bench.proofs.HistoryLaws.{SignsNow, signed-kept}
 use Rattle.bench.proofs.LegalLaws.{clash, Legal, legal-proposal, legal-turn, legal-delivery, legal-announcement, legal-suspicion, legal-trust, legal-signature}
-use Rattle.bench.proofs.FitLaws.{Ground, Fit}
+use Rattle.bench.proofs.FitLaws.{Ground, Fit, sound-on-bus, faulty-on-bus}
 use Rattle.bench.proofs.ReadingLaws.{Signs-new, newsOf, change-reads}
-use Rattle.bench.proofs.StepLaws.{suc-zero, every-board, same-soundness}
+use Rattle.bench.proofs.StepLaws.{every-board, same-soundness}
 use Rattle.bench.proofs.AccountLaws.{
   standingOf,
   turn-says,
@@ -60,7 +59,7 @@ pub record Rooted (L : Limits) (S : Setup) (H : History) (c : Bench) : Type 0 wh
       → Origin L S H v
 
 -- an origin stays one
-pub origin-kept : (L : Limits) (S : Setup) (H : History) (x : Entry) (v : ℕ) → Origin L S H v → Origin L S (H then x) v
+origin-kept : (L : Limits) (S : Setup) (H : History) (x : Entry) (v : ℕ) → Origin L S H v → Origin L S (H then x) v
 origin-kept L S H x v (was-proposed p s o) = was-proposed p s (once-kept H x _ o)
 origin-kept L S H x v (was-opened p r f i c s) = was-opened p r f i c (signed-kept L S H x p (identifierOf L Opening r) v s)
 
@@ -78,16 +77,11 @@ module _ (L : Limits) (S : Setup) (g : Ground L S) (H : History) (c : Bench) (f 
     where
       faulty : isSound c (coordinator (c .n) r) ≡ false → Faulty L S (coordinator (c .n) r)
       faulty s =
-          let q = coordinator-in (c .n) r (subst⁻¹ (λ (m : ℕ). 1 ≤ m) (f .same-n) (g .some-board)) in (
-            subst
-                (λ (m : ℕ). isWithin m (coordinator (c .n) r) ≡ true)
-                (f .same-n)
-                (within-in (c .n) (coordinator (c .n) r) (q .0) (q .1)),
-            subst (λ (m : ℕ). inSet m (coordinator (c .n) r) ≡ false) (f .same-sound) s,
-          )
+          let q = coordinator-in (c .n) r (subst⁻¹ (λ (m : ℕ). 1 ≤ m) (f .same-n) (g .some-board)) in
+          faulty-on-bus L S c f (coordinator (c .n) r) (within-in (c .n) (coordinator (c .n) r) (q .0) (q .1)) s
 
       signed : signedBy L c (coordinator (c .n) r) (identifierOf L Opening r) ≡ entryOf v
-      signed = f .told k (coordinator (c .n) r) (identifierOf L Opening r) v e
+      signed = f .heard-was-signed k (coordinator (c .n) r) (identifierOf L Opening r) v e
 
       go : (isRound L r ≡ true) ⊎ (isRound L r ≡ false)
           → (isSound c (coordinator (c .n) r) ≡ true) ⊎ (isSound c (coordinator (c .n) r) ≡ false) → Origin L S H v
@@ -102,7 +96,7 @@ module _ (L : Limits) (S : Setup) (g : Ground L S) (H : History) (c : Bench) (f 
           (y .signed (coordinator (c .n) r) (identifierOf L Opening r) v .1 signed)
       go (inr i) s =
           absurd
-          (suc-zero
+          (entry-some
           v
           (sym e
           ∙ ap (heardBy L c k (coordinator (c .n) r)) (identifier-none L Opening r i)
@@ -160,7 +154,7 @@ module _ (L : Limits) (S : Setup) (g : Ground L S) (H : History) (c : Bench) (f 
         go (legal-proposal k q u z j) =
             was-proposed
             a
-            (subst (λ (m : ℕ). inSet m a ≡ true) (f .same-sound) s)
+            (sound-on-bus L S c f a s)
             (once-new
             H
             e
@@ -239,7 +233,7 @@ module _ (L : Limits) (S : Setup) (g : Ground L S) (H : History) (c : Bench) (f 
         ⊎-elim
         (λ (q : Sound L S k × TurnSigns L S (standingOf L (boardAt L c k)) e k (identifierOf L Opening r) v). go l (q .1))
         (λ (q : Faulty L S k × Asks e k (identifierOf L Opening r) v).
-        absurd (true≢false (sym (subst (λ (m : ℕ). inSet m k ≡ true) (f .same-sound) s) ∙ q .0 .1)))
+        absurd (true≢false (sym (sound-on-bus L S c f k s) ∙ q .0 .1)))
       where
         go : Legal L c e c′ → TurnSigns L S (standingOf L (boardAt L c k)) e k (identifierOf L Opening r) v → Origin L S H′ v
         go (legal-turn k₀ q v₀ z j) x =

@@ -10,18 +10,18 @@ use Rattle.delivery.specs.Sets.{inSet}
 use Rattle.delivery.specs.Delivered.{Store}
 use Rattle.delivery.proofs.SetLaws.{in-none}
 use Rattle.delivery.proofs.OwedLaws.{owed-nothing}
-use Rattle.vote.specs.Boards.{freshPosition}
+use Rattle.vote.specs.Boards.{decisionOf, freshPosition}
 use Rattle.vote.specs.declared.board.Board.{Board}
 use Rattle.vote.specs.declared.position.Position.{Position}
-use Rattle.vote.proofs.StatusLaws.{idle-decided, decisionOf}
+use Rattle.vote.proofs.StatusLaws.{idle-decided}
 use Rattle.vote.proofs.BoardLaws.{fresh-position, fresh-status, fresh-estimate}
 use Rattle.bench.specs.Benches.{boardAt, heardBy}
 use Rattle.bench.specs.Setups.{Setup, benchOf}
-use Rattle.bench.specs.Story.{outset, at}
+use Rattle.bench.specs.Story.{outset, standingAfter}
 use Rattle.bench.specs.Claim.{Sound, Faulty, SignedInTurn, Asked, Signed, Reached, Delivered, Decided, Owed}
 use Rattle.bench.specs.declared.bench.Bench.{Bench}
 use Rattle.bench.proofs.BenchLaws.{board-fresh}
-use Rattle.bench.proofs.MomentLaws.{moment-none, once-none, at-none}
+use Rattle.bench.proofs.MomentLaws.{moment-none, once-none, standing-none}
 use Rattle.bench.proofs.SetupLaws.{heard-fresh, signed-fresh, fresh-fit}
 use Rattle.bench.proofs.AccountLaws.{standingOf}
 use Rattle.bench.proofs.TellsLaws.{Tells}
@@ -48,10 +48,10 @@ module _ (L : Limits) (S : Setup) where
   not-decided : (k r v : ℕ) → Decided L S [] k r v → ⊥
   not-decided k r v p = ⊎-elim (once-none _) (once-none _) (p .1)
 
-  stands-fresh : (k : ℕ) → at L (S .n) k [] ≡ standingOf L (boardAt L empty k)
+  stands-fresh : (k : ℕ) → standingAfter L (S .n) k [] ≡ standingOf L (boardAt L empty k)
   unfolding outset
   stands-fresh k =
-      at-none L (S .n) k
+      standing-none L (S .n) k
       ∙ ap
       (λ (h : Store). record { position = freshPosition; heard = h })
       (fun-ext (λ (s : ℕ). fun-ext (λ (i : ℕ). sym (heard-fresh L (S .n) (S .sound) k s i))))

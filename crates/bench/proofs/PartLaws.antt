@@ -23,17 +23,17 @@ use Rattle.delivery.specs.Bus.{isBoard}
 use Rattle.delivery.specs.declared.owed.Owed.{Owed}
 use Rattle.delivery.proofs.TestLaws.{and-yes-left, and-no-left, decided}
 use Rattle.vote.specs.Boards.{freshBoard, hasDecided, deliverTo}
-use Rattle.vote.specs.Turns.{numberOf, turn}
+use Rattle.vote.specs.Turns.{turn}
 use Rattle.vote.specs.declared.board.Board.{Board}
 use Rattle.vote.specs.declared.statement.Said.{Said}
 use Rattle.vote.specs.declared.statement.Said.the-variants.{Nothing, One}
-use Rattle.vote.specs.declared.statement.Statement.{Statement}
+use Rattle.vote.proofs.TurnLaws.{number-done}
 use Rattle.bench.specs.Events.{turning, delivering}
 use Rattle.bench.specs.Benches.{boardAt, signerAt, signedBy}
 use Rattle.bench.specs.Answers.{answerNumber, isAccepted}
 use Rattle.bench.specs.Table.{isWaiting, refuses, turnRow, firstOf, checkOf}
-use Rattle.bench.specs.Effects.{withBoardAt, withSignature, withOwed, afterSaying, afterTurn, afterHearing, effectOf, stepOf}
-use Rattle.bench.specs.Parts.{restOf, Has, Own, lastOf, thenLast, signerBy, owedBy, silent, putBack, Steps}
+use Rattle.bench.specs.Effects.{withBoardAt, withSignature, withOwed, afterSaying, afterTurn, afterHearing, brought, effectOf, stepOf}
+use Rattle.bench.specs.Parts.{restOf, Has, Own, lastOf, thenLast, signerAfter, owedBy, silent, putBack, Steps}
 use Rattle.bench.specs.declared.bench.Bench.{Bench}
 use Rattle.bench.specs.declared.event.Event.{Event}
 use Rattle.bench.specs.declared.answer.Answer.{Answer}
@@ -46,8 +46,8 @@ use Rattle.bench.proofs.EffectLaws.{effect-turning, effect-delivering}
 use Rattle.bench.proofs.LegalLaws.{accepted-passed}
 
 accepted-so : isAccepted Accepted ≡ true
-unfolding isAccepted answerNumber numberOf
-accepted-so = refl
+unfolding isAccepted answerNumber
+accepted-so = ap (λ (m : ℕ). eqb m 0) number-done
 
 -- an answer of the rows before the last stands if it refuses, and else the last row is looked at
 pub stands : (r : Answer) (w : Bool) → isAccepted r ≡ false → thenLast r w ≡ r
@@ -69,10 +69,6 @@ last-row w = sym (goes-on Accepted w accepted-so)
 -- the bench with other boards, with other signers, and with other copies owed
 abbrev pub having : Bench → List Board → List Signer → Owed → Bench
 having c bs ss o = record { n = c .n; sound = c .sound; boards = bs; signers = ss; owed = o }
-
--- the statement that a delivery brings
-abbrev told : Event → Statement
-told e = record { speaker = e .b; id = record { 0 = e .id }; value = e .value }
 
 module _ (L : Limits) (c : Bench) (e : Event) where
   -- a bench has its own parts
@@ -116,9 +112,9 @@ module _ (L : Limits) (c : Bench) (e : Event) where
       (sym g)
 
   put-saying : (r : Answer) (b : Board) (x : Said) → e .kind ≡ turning
-      → putBack L c e (record { answer = r; board = b; signer = signerBy L (signerAt L c (e .a)) x; said = x })
+      → putBack L c e (record { answer = r; board = b; signer = signerAfter L (signerAt L c (e .a)) x; said = x })
       ≡ withBoardAt (afterSaying L c (e .a) x) (e .a) b
-  unfolding putBack owedBy signerBy afterSaying withSignature withOwed withBoardAt
+  unfolding putBack owedBy signerAfter afterSaying withSignature withOwed withBoardAt
   put-saying r b Nothing k = ap (λ (ss : List Signer). having c (setNth (c .boards) (e .a) b) ss (c .owed)) (signer-back _ refl)
   put-saying r b (One x) k =
       ap
@@ -127,7 +123,7 @@ module _ (L : Limits) (c : Bench) (e : Event) where
 
   pub put-turn : (n : ℕ) (a : Board) (own : Signer) → e .kind ≡ turning → Own L c e n a own
       → let t = turn L n (e .a) a in
-      putBack L c e (record { answer = Accepted; board = t .board; signer = signerBy L own (t .signed); said = t .signed })
+      putBack L c e (record { answer = Accepted; board = t .board; signer = signerAfter L own (t .signed); said = t .signed })
       ≡ effectOf L c e
   unfolding afterTurn
   put-turn n a own k o =
@@ -135,14 +131,14 @@ module _ (L : Limits) (c : Bench) (e : Event) where
       rw (← o .count, ← o .board, ← o .signer) (put-saying Accepted (t .board) (t .signed) k ∙ sym (effect-turning L c e k))
 
   pub put-hearing : (a : Board) (own : Signer) → e .kind ≡ delivering → boardAt L c (e .a) ≡ a → signerAt L c (e .a) ≡ own
-      → putBack L c e (record { answer = Accepted; board = deliverTo L a (told e); signer = own; said = One (told e) })
+      → putBack L c e (record { answer = Accepted; board = deliverTo L a (brought e); signer = own; said = One (brought e) })
       ≡ effectOf L c e
   unfolding putBack owedBy afterHearing withOwed withBoardAt
   put-hearing a own k h g =
-      let bs = setNth (c .boards) (e .a) (deliverTo L (boardAt L c (e .a)) (told e)) in
+      let bs = setNth (c .boards) (e .a) (deliverTo L (boardAt L c (e .a)) (brought e)) in
       rw
       (← h, ← g)
-      (ap (λ (ss : List Signer). having c bs ss (owedBy L c e (One (told e)))) (signer-back _ refl)
+      (ap (λ (ss : List Signer). having c bs ss (owedBy L c e (One (brought e)))) (signer-back _ refl)
       ∙ ap (λ (o : Owed). having c bs (c .signers) o) (if-false (eqb (e .kind) turning) _ _ (other _ _ _ k refl))
       ∙ sym (effect-delivering L c e k))
 

@@ -7,6 +7,7 @@ use mathlib.Core.Logic.{_⊎_, inl, inr, ⊎-elim}
 use lib.ListN.{length}
 use Rattle.signer.specs.FromOne.{isWithin, nth}
 use Rattle.signer.specs.Log.{isIdentifier, entryOf, entryAt}
+use Rattle.signer.proofs.LogLaws.{entry-one}
 use Rattle.signer.specs.Signer.{grants, sign}
 use Rattle.signer.specs.declared.signer.Signer.{Signer}
 use Rattle.signer.proofs.SignerLaws.{grants-only, sign-stands, sign-keeps, sign-only}
@@ -29,9 +30,6 @@ use Rattle.bench.specs.declared.bench.Bench.{Bench}
 use Rattle.bench.proofs.BenchLaws.{board-same, board-other, signer-same, signer-other}
 use Rattle.bench.proofs.ChangeLaws.{Change, keeps-quiet, says, listens, lies, me, spoken, echoed}
 use Rattle.bench.proofs.FitLaws.{same-or-not, Ground, Fit, board-there}
-
-suc-one : (v w : ℕ) → entryOf v ≡ entryOf w → v ≡ w
-suc-one v w e = omega (arith, e)
 
 -- what a change brings: nothing; a statement that board a signs and hears; one that it hears; one that it signs alone
 pub data News : Type 0 where
@@ -111,7 +109,7 @@ module _ (L : Limits) (S : Setup) (g : Ground L S) (c : Bench) (f : Fit L S c) (
         ∙ ap entryOf (sym (o .2)))
 
     -- nothing was signed under that identifier before, so nobody has heard it
-    pub unsigned : (u : ℕ) → signedBy L c a i ≡ entryOf u → ⊥
+    unsigned : (u : ℕ) → signedBy L c a i ≡ entryOf u → ⊥
     unfolding signedBy
     unsigned u e =
         omega (arith, f .formed a .capped i u e, grants-only (L .identifiers) (signerAt L c a) i t .1)
@@ -121,7 +119,7 @@ module _ (L : Limits) (S : Setup) (g : Ground L S) (c : Bench) (f : Fit L S c) (
       where
         go : (x : ℕ) → heardBy L c k a i ≡ x → heardBy L c k a i ≡ 0
         go zero e = e
-        go (suc u) e = absurd (unsigned u (f .told k a i u e))
+        go (suc u) e = absurd (unsigned u (f .heard-was-signed k a i u e))
 
   -- another board a, on a bench with the boards of c
   module _ (c₁ : Bench) (e₁ : c₁ .boards ≡ c .boards) (b : Board) where
@@ -142,7 +140,7 @@ module _ (L : Limits) (S : Setup) (g : Ground L S) (c : Bench) (f : Fit L S c) (
         (same-or-not k a)
 
     -- where it has heard what it had, so has every board
-    pub heard-same : b .delivered ≡ me L c a .delivered → (k s i : ℕ) → heardBy L (withBoardAt c₁ a b) k s i ≡ heardBy L c k s i
+    heard-same : b .delivered ≡ me L c a .delivered → (k s i : ℕ) → heardBy L (withBoardAt c₁ a b) k s i ≡ heardBy L c k s i
     heard-same d k s i =
         each-board
         (λ (m : ℕ) (x : Board). heard L (x .delivered) s i ≡ heardBy L c m s i)
@@ -168,7 +166,7 @@ module _ (L : Limits) (S : Setup) (g : Ground L S) (c : Bench) (f : Fit L S c) (
           (λ (e : heard L (b .delivered) s i ≡ entryOf v).
           ⊎-elim
           (λ o. inl (sym o ∙ sym (is-heard s i) ∙ e))
-          (λ o. inr (refl, o .0, o .1, suc-one v (x .value) (sym e ∙ is-heard s i ∙ o .2)))
+          (λ o. inr (refl, o .0, o .1, entry-one v (x .value) (sym e ∙ is-heard s i ∙ o .2)))
           (deliver-only L was-heard (x .speaker) (x .id .0) (x .value) s i))
           (λ m n e. inl e)
           k

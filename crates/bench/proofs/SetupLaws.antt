@@ -32,7 +32,7 @@ use Rattle.vote.proofs.BoardLaws.{fresh-delivered}
 use Rattle.vote.proofs.ProperLaws.{Proper, fresh-proper}
 use Rattle.vote.proofs.LifeLaws.{Grounded, fresh-grounded}
 use Rattle.bench.specs.Benches.{signerAt, heardBy, signedBy}
-use Rattle.bench.specs.Setups.{isMarkByte, isMark, isMarkedSound, Setup, freshAnswer, setupBy, setup, benchOf, freshBench, freshOf}
+use Rattle.bench.specs.Setups.{isMark, isMarkAt, isMarkedSound, Setup, freshAnswer, setupBy, setup, benchOf, freshBench, freshOf}
 use Rattle.bench.specs.Answers.{freshNumber}
 use Rattle.bench.specs.declared.answer.FreshAnswer.{FreshAnswer}
 use Rattle.bench.specs.declared.answer.FreshAnswer.the-variants.{Made, NoBus, NoMark}
@@ -70,8 +70,8 @@ module _ (ms rs : List ℕ) (e : (k : ℕ) → nth ms k 0 ≡ nth rs k 0) where
   setup-alike NoMark n = refl
 
   answer-alike : (L : Limits) (n : ℕ) → freshAnswer L n ms ≡ freshAnswer L n rs
-  unfolding freshAnswer isMark
-  answer-alike L n = ap (λ (p : ℕ → Bool). if isBoard L n then (if everyIn n p then Made else NoMark) else NoBus) (fun-ext (λ k. ap isMarkByte (e k)))
+  unfolding freshAnswer isMarkAt
+  answer-alike L n = ap (λ (p : ℕ → Bool). if isBoard L n then (if everyIn n p then Made else NoMark) else NoBus) (fun-ext (λ k. ap isMark (e k)))
 
   pub fresh-alike : (L : Limits) (n : ℕ) → freshBench L n ms ≡ freshBench L n rs
   unfolding freshBench
@@ -94,9 +94,9 @@ made-board L n marks =
 
 -- and one is made for such a number, if the marks are marks
 pub board-made : (L : Limits) (n : ℕ) (marks : List ℕ) → isBoard L n ≡ true
-    → ((k : ℕ) → 1 ≤ k → k ≤ n → isMarkByte (nth marks k 0) ≡ true) → freshAnswer L n marks ≡ Made
-unfolding freshAnswer isMark
-board-made L n marks t m = if-true _ _ _ t ∙ if-true _ _ _ (reads-every n (isMark marks) m)
+    → ((k : ℕ) → 1 ≤ k → k ≤ n → isMark (nth marks k 0) ≡ true) → freshAnswer L n marks ≡ Made
+unfolding freshAnswer isMarkAt
+board-made L n marks t m = if-true _ _ _ t ∙ if-true _ _ _ (reads-every n (isMarkAt marks) m)
 
 alone-ground : (n : ℕ) (marks : List ℕ) → Ground limits (setupBy NoBus n marks)
 unfolding setupBy
@@ -165,7 +165,7 @@ fresh-fit L S =
       formed = λ k.
           subst⁻¹ (WellFormed (L .identifiers)) (signer-fresh L (S .n) (S .sound) k) (fresh-wellformed (L .identifiers));
       apart = λ k f. board-fresh L (S .n) (S .sound) k;
-      told = λ k s i v h. absurd (omega (arith, heard-fresh L (S .n) (S .sound) k s i, h));
+      heard-was-signed = λ k s i v h. absurd (omega (arith, heard-fresh L (S .n) (S .sound) k s i, h));
       own = λ k i v t h. absurd (signed-fresh L (S .n) (S .sound) k i v h);
       ahead = λ k t. omega (arith, last-fresh L (S .n) (S .sound) k);
       owed-lacking = λ k s i h. absurd (true≢false (sym h ∙ ap (λ (m : ℕ). inSet m k) (owed-nothing L s i) ∙ in-none k));

@@ -13,7 +13,7 @@ use Rattle.delivery.proofs.TestLaws.{decided}
 use Rattle.vote.specs.declared.position.Position.{Position}
 use Rattle.vote.specs.declared.board.Status.{Status}
 use Rattle.vote.specs.declared.board.Status.the-variants.{Idle, Voting, Spent, Decided}
-use Rattle.vote.proofs.StatusLaws.{decisionOf}
+use Rattle.vote.specs.Boards.{decisionOf}
 use Rattle.bench.specs.Benches.{isSound, boardAt}
 use Rattle.bench.specs.Shows.{letterByte, plain, decidedAs, standing, shown}
 use Rattle.bench.specs.declared.bench.Bench.{Bench}

@@ -7,6 +7,7 @@ use mathlib.Core.Logic.{_⊎_, inl, inr, ⊎-elim}
 use lib.ListN.{length}
 use Rattle.signer.specs.FromOne.{isWithin}
 use Rattle.signer.specs.Log.{entryOf}
+use Rattle.signer.proofs.LogLaws.{entry-some}
 use Rattle.signer.specs.Signer.{grants, sign}
 use Rattle.signer.specs.declared.signer.Signer.{Signer}
 use Rattle.signer.proofs.FromOneLaws.{length-setNth}
@@ -31,22 +32,19 @@ use Rattle.bench.specs.declared.bench.Bench.{Bench}
 use Rattle.bench.proofs.BenchLaws.{signer-same, signer-other}
 use Rattle.bench.proofs.ChangeLaws.{Change, keeps-quiet, says, listens, lies, me, spoken, echoed}
 use Rattle.bench.proofs.FitLaws.{same-or-not, Ground, Fit, Lacking, board-there}
-use Rattle.bench.proofs.ReadingLaws.{Signs-new, Hears-new, Reads, newsOf, unheard, change-reads, each-board}
+use Rattle.bench.proofs.ReadingLaws.{Signs-new, Hears-new, Reads, newsOf, change-reads, each-board}
 use Rattle.bench.proofs.OwingLaws.{Spreads-new, Lacks-it, Owes, change-owes}
-
-pub suc-zero : (v : ℕ) → entryOf v ≡ 0 → ⊥
-suc-zero v e = omega (arith, e)
 
 module _ (L : Limits) (c : Bench) (a : ℕ) where
   -- the bus stays the same
-  pub change-n : (c′ : Bench) → Change L c a c′ → c′ .n ≡ c .n
+  change-n : (c′ : Bench) → Change L c a c′ → c′ .n ≡ c .n
   unfolding withBoardAt withOwed withSignature
   change-n c′ (keeps-quiet x s w d e) = ap (λ (y : Bench). y .n) e
   change-n c′ (says x s w t r o d e) = ap (λ (y : Bench). y .n) e
   change-n c′ (listens x s w y z t n e) = ap (λ (y : Bench). y .n) e
   change-n c′ (lies i v s w t e) = ap (λ (y : Bench). y .n) e
 
-  pub change-sound : (c′ : Bench) → Change L c a c′ → c′ .sound ≡ c .sound
+  change-sound : (c′ : Bench) → Change L c a c′ → c′ .sound ≡ c .sound
   unfolding withBoardAt withOwed withSignature
   change-sound c′ (keeps-quiet x s w d e) = ap (λ (y : Bench). y .sound) e
   change-sound c′ (says x s w t r o d e) = ap (λ (y : Bench). y .sound) e
@@ -83,7 +81,7 @@ module _ (L : Limits) (c : Bench) (a : ℕ) where
   boardOf c′ (listens x s w y z t n e) = called L (c .n) a (me L c a) (delivery x)
   boardOf c′ (lies i v s w t e) = me L c a
 
-  pub board-by : (P : Board → Type 0) → P (me L c a) → ((x : Call) → P (called L (c .n) a (me L c a) x))
+  board-by : (P : Board → Type 0) → P (me L c a) → ((x : Call) → P (called L (c .n) a (me L c a) x))
       → (c′ : Bench) (h : Change L c a c′) → P (boardOf c′ h)
   unfolding boardOf
   board-by P p q c′ (keeps-quiet x s w d e) = q x
@@ -100,7 +98,7 @@ module _ (L : Limits) (c : Bench) (a : ℕ) where
   board-apart f c′ (lies i v s w t e) = refl
 
   -- who hears something new has signed it now, or it was signed before; it is for others to hear too, and a is sound
-  pub hears-signs : (c′ : Bench) (h : Change L c a c′) (k s i v : ℕ) → Hears-new a (newsOf L c a c′ h) k s i v
+  hears-signs : (c′ : Bench) (h : Change L c a c′) (k s i v : ℕ) → Hears-new a (newsOf L c a c′ h) k s i v
       → (signedBy L c s i ≡ entryOf v) ⊎ Signs-new a (newsOf L c a c′ h) s i v
   unfolding newsOf Signs-new Hears-new
   hears-signs c′ (keeps-quiet x s w d e) k q i v n = absurd n
@@ -239,26 +237,11 @@ module _ (L : Limits) (S : Setup) (g : Ground L S) (c : Bench) (f : Fit L S c) (
       subst⁻¹ (λ (y : Bench). signerAt L y a .last .0 ≤ due L (called L (c .n) a (me L c a) (delivery x)) - 1) e (called-ahead (delivery x) q)
   own-ahead c′ (lies i v s w t e) q = absurd (true≢false (sym q ∙ s))
 
-  -- what is newly heard was signed, and was not heard before; what a sound board newly signs it hears
+  -- what is newly heard was signed; what a sound board newly signs it hears
   pub heard-new-signed : (c′ : Bench) (h : Change L c a c′) (k s i v : ℕ) → Hears-new a (newsOf L c a c′ h) k s i v
       → signedBy L c′ s i ≡ entryOf v
   heard-new-signed c′ h k s i v n =
       change-reads L S g c f a c′ h .signed-on s i v (hears-signs L c a c′ h k s i v n)
-
-  pub new-unheard : (c′ : Bench) (h : Change L c a c′) (k s i v : ℕ) → Hears-new a (newsOf L c a c′ h) k s i v
-      → heardBy L c k s i ≡ 0
-  unfolding newsOf Hears-new
-  new-unheard c′ (keeps-quiet x s w d e) k q i v n = absurd n
-  new-unheard c′ (says x s w t r o d e) k q i v n =
-      ap (λ (m : ℕ). heardBy L c k m i) (n .1)
-      ∙ ap (heardBy L c k a) (n .2)
-      ∙ unheard L S g c f a w (x .id .0) (x .value) o k
-  new-unheard c′ (listens x s w y z t j e) k q i v n =
-      ap (λ (m : ℕ). heardBy L c m q i) (n .0)
-      ∙ ap (λ (m : ℕ). heardBy L c a m i) (n .1)
-      ∙ ap (heardBy L c a (x .speaker)) (n .2)
-      ∙ j
-  new-unheard c′ (lies i′ v′ s w t e) k q i v n = absurd n
 
   own-new : (c′ : Bench) (h : Change L c a c′) (k i v : ℕ) → isSound c k ≡ true → Signs-new a (newsOf L c a c′ h) k i v
       → Hears-new a (newsOf L c a c′ h) k k i v
@@ -275,10 +258,10 @@ module _ (L : Limits) (S : Setup) (g : Ground L S) (c : Bench) (f : Fit L S c) (
     abbrev o : Owes L c a (newsOf L c a c′ h) c′
     o = change-owes L S g c f a c′ h
 
-    told-then : (k s i v : ℕ) → heardBy L c′ k s i ≡ entryOf v → signedBy L c′ s i ≡ entryOf v
-    told-then k s i v e =
+    heard-was-signed-then : (k s i v : ℕ) → heardBy L c′ k s i ≡ entryOf v → signedBy L c′ s i ≡ entryOf v
+    heard-was-signed-then k s i v e =
         ⊎-elim
-        (λ (p : heardBy L c k s i ≡ entryOf v). r .signed-on s i v (inl (f .told k s i v p)))
+        (λ (p : heardBy L c k s i ≡ entryOf v). r .signed-on s i v (inl (f .heard-was-signed k s i v p)))
         (λ (p : Hears-new a (newsOf L c a c′ h) k s i v). heard-new-signed c′ h k s i v p)
         (r .heard-back k s i v e)
 
@@ -304,7 +287,7 @@ module _ (L : Limits) (S : Setup) (g : Ground L S) (c : Bench) (f : Fit L S c) (
         go (suc v) e =
             absurd
             (⊎-elim
-            (λ (p : heardBy L c k s i ≡ entryOf v). suc-zero v (sym p ∙ z))
+            (λ (p : heardBy L c k s i ≡ entryOf v). entry-some v (sym p ∙ z))
             (n v)
             (r .heard-back k s i v e))
 
@@ -313,7 +296,7 @@ module _ (L : Limits) (S : Setup) (g : Ground L S) (c : Bench) (f : Fit L S c) (
       where
         go : (x : ℕ) → heardBy L c k s i ≡ x → heardBy L c k s i ≡ 0
         go zero e = e
-        go (suc v) e = absurd (suc-zero v (sym (r .heard-on k s i v (inl e)) ∙ z))
+        go (suc v) e = absurd (entry-some v (sym (r .heard-on k s i v (inl e)) ∙ z))
 
     pub same-soundness : (k : ℕ) → isSound c′ k ≡ isSound c k
     same-soundness k = ap (λ (m : ℕ). inSet m k) (change-sound L c a c′ h)
@@ -344,7 +327,7 @@ module _ (L : Limits) (S : Setup) (g : Ground L S) (c : Bench) (f : Fit L S c) (
           not-heard = still-unheard k s i (p .1 .not-heard) (λ v n. o .not-now k s i v t n);
           holder = a;
           holder-sound = same-soundness a ∙ n .0;
-          holder-has = λ z. suc-zero (n .1 .0) (sym (r .heard-on a s i (n .1 .0) (inr (n .1 .1))) ∙ z);
+          holder-has = λ z. entry-some (n .1 .0) (sym (r .heard-on a s i (n .1 .0) (inr (n .1 .1))) ∙ z);
         })
         (o .owed-back k s i t)
 
@@ -354,7 +337,7 @@ module _ (L : Limits) (S : Setup) (g : Ground L S) (c : Bench) (f : Fit L S c) (
         k
         s
         i
-        (λ v n. suc-zero v (sym (r .heard-on k s i v (inr n)) ∙ l .not-heard))
+        (λ v n. entry-some v (sym (r .heard-on k s i v (inr n)) ∙ l .not-heard))
         (held (heardBy L c′ (l .holder) s i) refl)
       where
         lacks : Lacks-it L c k s i
@@ -382,7 +365,7 @@ module _ (L : Limits) (S : Setup) (g : Ground L S) (c : Bench) (f : Fit L S c) (
               not-heard = lacks .not-heard;
               holder = l .holder;
               holder-sound = sym (same-soundness (l .holder)) ∙ l .holder-sound;
-              holder-has = λ z. suc-zero v (sym p ∙ z);
+              holder-has = λ z. entry-some v (sym p ∙ z);
             })))
             (λ (p : Hears-new a (newsOf L c a c′ h) (l .holder) s i v).
             inr (
@@ -399,7 +382,7 @@ module _ (L : Limits) (S : Setup) (g : Ground L S) (c : Bench) (f : Fit L S c) (
                   v
                   p
                   (l .other)
-                  (λ n. suc-zero v (sym (r .heard-on k s i v (inr n)) ∙ l .not-heard)),
+                  (λ n. entry-some v (sym (r .heard-on k s i v (inr n)) ∙ l .not-heard)),
               lacks,
             ))
             (r .heard-back (l .holder) s i v e)
@@ -442,7 +425,7 @@ module _ (L : Limits) (S : Setup) (g : Ground L S) (c : Bench) (f : Fit L S c) (
               (λ m n. f .apart m)
               k
               (sym (same-soundness k) ∙ t);
-          told = told-then;
+          heard-was-signed = heard-was-signed-then;
           own = λ k i v t. own-then k i v (sym (same-soundness k) ∙ t);
           ahead =
               λ k t.

@@ -1,9 +1,9 @@
 -- Laws of the table: of the kinds that an event may be of, of tests joined, and of the first row that applies.
 -- Assumes nothing.
 use Prim.Native.Nat.{ℕ}
-use mathlib.Core.Path.{_≡_, refl, ap, _∙_}
+use mathlib.Core.Path.{_≡_, ap, _∙_}
 use mathlib.Core.Bool.{Bool, true, false, not}
-use mathlib.Core.List.{List, [], _∷_}
+use mathlib.Core.List.{List, _∷_}
 use lib.Dec.{eqb}
 use borrow.Author.Tests.{eq-eqb}
 use Rattle.signer.specs.FromOne.{isWithin}
@@ -15,7 +15,6 @@ use Rattle.bench.specs.Table.{boardsRow, firstOf}
 use Rattle.bench.specs.declared.bench.Bench.{Bench}
 use Rattle.bench.specs.declared.event.Event.{Event}
 use Rattle.bench.specs.declared.answer.Answer.{Answer}
-use Rattle.bench.specs.declared.answer.Answer.the-variants.{Accepted}
 
 -- what the code negates is the word "not" of the same test
 pub not-same : (a b : Bool) → a ≡ b → not a ≡ neg b
@@ -79,8 +78,3 @@ pub first-skips : (b : Bool) (a : Answer) (rows : List (Bool × Answer))
     → b ≡ false → firstOf ((b, a) ∷ rows) ≡ firstOf rows
 unfolding firstOf
 first-skips b a rows h = if-false _ _ _ h
-
--- where no row is left, the event is accepted
-pub first-none : firstOf [] ≡ Accepted
-unfolding firstOf
-first-none = refl

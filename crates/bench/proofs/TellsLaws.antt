@@ -1,21 +1,21 @@
 -- A history tells what its bench shows, entry after entry. Assumes nothing.
 use Prim.Native.Nat.{ℕ, zero, suc}
-use native.Mathlib.Omega.{arith}
 use mathlib.Core.Path.{_≡_, refl, sym, ap, subst, subst⁻¹, _∙_, fun-ext}
 use mathlib.Core.Bool.{true, false, true≢false}
 use mathlib.Core.Logic.{_⊎_, inl, inr, ⊎-elim, _↔_}
 use borrow.Author.Tests.{eqb-false}
 use Rattle.signer.specs.Log.{entryOf}
+use Rattle.signer.proofs.LogLaws.{entry-some, entry-one}
 use Rattle.delivery.specs.Limits.{Limits}
 use Rattle.delivery.specs.Sets.{inSet}
 use Rattle.delivery.specs.Owed.{receivers}
 use Rattle.vote.specs.declared.board.Board.{Board}
 use Rattle.vote.specs.declared.board.Status.the-variants.{Decided as decided-with}
-use Rattle.vote.proofs.StatusLaws.{decisionOf}
-use Rattle.bench.specs.Events.{turning, delivering, signing}
+use Rattle.vote.specs.Boards.{decisionOf}
+use Rattle.bench.specs.Events.{turning, delivering}
 use Rattle.bench.specs.Benches.{isSound, boardAt, heardBy, signedBy}
 use Rattle.bench.specs.Setups.{Setup}
-use Rattle.bench.specs.Story.{Entry, History, Standing, believing, told, at}
+use Rattle.bench.specs.Story.{Entry, History, Standing, believing, afterEntry, standingAfter}
 use Rattle.bench.specs.Claim.{
   Delivers,
   Announces,
@@ -34,7 +34,7 @@ use Rattle.bench.specs.Claim.{
 }
 use Rattle.bench.specs.declared.bench.Bench.{Bench}
 use Rattle.bench.specs.declared.event.Event.{Event}
-use Rattle.bench.proofs.MomentLaws.{accepted, _then_, at-last, told-refused, told-other, told-own}
+use Rattle.bench.proofs.MomentLaws.{accepted, _then_, standing-last, standing-refused, standing-other, standing-own}
 use Rattle.bench.proofs.HistoryLaws.{
   SignsNow,
   DeliversNow,
@@ -55,15 +55,15 @@ use Rattle.bench.proofs.HistoryLaws.{
   owed-cases,
   owed-new,
 }
-use Rattle.bench.proofs.FitLaws.{Ground, Fit, Lacking}
+use Rattle.bench.proofs.FitLaws.{Ground, Fit, Lacking, sound-on-bus, sound-on-bench}
 use Rattle.bench.proofs.ReadingLaws.{News, Signs-new, Hears-new, Reads, newsOf, change-reads}
 use Rattle.bench.proofs.OwingLaws.{Spreads-new, Lacks-it, Owes, change-owes}
-use Rattle.bench.proofs.StepLaws.{suc-zero, hears-signs, spreads-hears, hears-spreads, every-board, heard-new-signed, new-unheard, same-soundness}
+use Rattle.bench.proofs.StepLaws.{spreads-hears, hears-spreads, every-board, heard-new-signed, same-soundness}
 use Rattle.bench.proofs.AccountLaws.{standingOf, Account}
 
 -- what is read off the bench is what the history says
 pub record Tells (L : Limits) (S : Setup) (H : History) (c : Bench) : Type 0 where
-  pub stands : (k : ℕ) → at L (S .n) k H ≡ standingOf L (boardAt L c k)
+  pub stands : (k : ℕ) → standingAfter L (S .n) k H ≡ standingOf L (boardAt L c k)
   pub signed : (k i v : ℕ) → Signed L S H k i v ↔ (signedBy L c k i ≡ entryOf v)
   pub delivered : (k s i v : ℕ) → Delivered L S H k s i v ↔ (heardBy L c k s i ≡ entryOf v)
   pub decided : (k r v : ℕ) → Decided L S H k r v ↔ ((isSound c k ≡ true) × (boardAt L c k .status ≡ decided-with (decisionOf r v)))
@@ -75,7 +75,7 @@ pub tells-refused : (L : Limits) (S : Setup) (H : History) (c : Bench) (x : Entr
     → Tells L S (H then x) c
 tells-refused L S H c x n y =
     record {
-      stands = λ k. at-last L (S .n) k H x ∙ told-refused L (S .n) k (at L (S .n) k H) x n ∙ y .stands k;
+      stands = λ k. standing-last L (S .n) k H x ∙ standing-refused L (S .n) k (standingAfter L (S .n) k H) x n ∙ y .stands k;
       signed =
           λ k i v. (
             λ (p : Signed L S (H then x) k i v).
@@ -125,20 +125,13 @@ module _ (L : Limits) (S : Setup) (g : Ground L S) (H : History) (c : Bench) (f 
 
   -- the boards stand where the history has them
   abbrev by-history : ℕ → Standing
-  by-history j = at L (S .n) j H
+  by-history j = standingAfter L (S .n) j H
 
   abbrev by-bench : ℕ → Standing
   by-bench j = standingOf L (boardAt L c j)
 
   alike : by-history ≡ by-bench
   alike = fun-ext (λ (j : ℕ). y .stands j)
-
-  -- the soundness of a board, on the bus and on the bench
-  on-bus : (k : ℕ) → isSound c k ≡ true → Sound L S k
-  on-bus k p = subst (λ (m : ℕ). inSet m k ≡ true) (f .same-sound) p
-
-  on-bench : (k : ℕ) → Sound L S k → isSound c k ≡ true
-  on-bench k p = subst⁻¹ (λ (m : ℕ). inSet m k ≡ true) (f .same-sound) p
 
   -- what the event adds is what is new
   signs-now : (k i v : ℕ) → SignsNow L S by-history e k i v → Signs-new a news k i v
@@ -153,9 +146,9 @@ module _ (L : Limits) (S : Setup) (g : Ground L S) (H : History) (c : Bench) (f 
   now-hears : (k s i v : ℕ) → Hears-new a news k s i v → DeliversNow L S by-history e k s i v
   now-hears k s i v p = subst⁻¹ (λ (t : ℕ → Standing). DeliversNow L S t e k s i v) alike (w .hears-it k s i v .1 p)
 
-  stands-then : (k : ℕ) → at L (S .n) k H′ ≡ standingOf L (boardAt L c′ k)
+  stands-then : (k : ℕ) → standingAfter L (S .n) k H′ ≡ standingOf L (boardAt L c′ k)
   stands-then k =
-      at-last L (S .n) k H (accepted e)
+      standing-last L (S .n) k H (accepted e)
       ∙ every-board
       L
       S
@@ -165,11 +158,11 @@ module _ (L : Limits) (S : Setup) (g : Ground L S) (H : History) (c : Bench) (f 
       a
       c′
       (w .change)
-      (λ (m : ℕ) (b : Board). told L (S .n) m (at L (S .n) m H) (accepted e) ≡ standingOf L b)
-      (told-own L (S .n) a (at L (S .n) a H) e refl
+      (λ (m : ℕ) (b : Board). afterEntry L (S .n) m (standingAfter L (S .n) m H) (accepted e) ≡ standingOf L b)
+      (standing-own L (S .n) a (standingAfter L (S .n) a H) e refl
       ∙ ap (λ (t : Standing). believing L (S .n) a t e) (y .stands a)
       ∙ w .stands)
-      (λ m n. told-other L (S .n) m (at L (S .n) m H) (accepted e) (λ q. n (sym q)) ∙ y .stands m)
+      (λ m n. standing-other L (S .n) m (standingAfter L (S .n) m H) (accepted e) (λ q. n (sym q)) ∙ y .stands m)
       k
 
   signed-then : (k i v : ℕ) → Signed L S H′ k i v ↔ (signedBy L c′ k i ≡ entryOf v)
@@ -257,12 +250,12 @@ module _ (L : Limits) (S : Setup) (g : Ground L S) (H : History) (c : Bench) (f 
       ↔ ((isSound c′ k ≡ true) × (boardAt L c′ k .status ≡ decided-with (decisionOf r v)))
   decided-then k r v = (
     λ (p : Decided L S H′ k r v). (
-      same-soundness L S g c f a c′ (w .change) k ∙ on-bench k (p .0),
+      same-soundness L S g c f a c′ (w .change) k ∙ sound-on-bench L S c f k (p .0),
       decided-out
           k
           r
           v
-          (on-bench k (p .0))
+          (sound-on-bench L S c f k (p .0))
           (⊎-elim
           (λ (q : Decided L S H k r v). inl (y .decided k r v .0 q .1))
           (λ (q : (0 ≡ 0) × DecidesNow L S by-history e k r v).
@@ -281,7 +274,7 @@ module _ (L : Limits) (S : Setup) (g : Ground L S) (H : History) (c : Bench) (f 
 
   -- one value is signed under an identifier, so what is newly heard is what is signed
   one-value : (s i v u : ℕ) → signedBy L c′ s i ≡ entryOf v → signedBy L c′ s i ≡ entryOf u → v ≡ u
-  one-value s i v u p q = let d : entryOf v ≡ entryOf u = sym p ∙ q in omega (arith, d)
+  one-value s i v u p q = entry-one v u (sym p ∙ q)
 
   heard-is : (k s i u v : ℕ) → Hears-new a news k s i u → signedBy L c′ s i ≡ entryOf v → Hears-new a news k s i v
   heard-is k s i u v p q =
@@ -298,11 +291,11 @@ module _ (L : Limits) (S : Setup) (g : Ground L S) (H : History) (c : Bench) (f 
   -- what spreads is newly heard by some board, and not by k
   spread-heard : (k s i v : ℕ) → Spreads L S (by-history s) e k s i v → (j : ℕ) × Hears-new a news j s i v
   spread-heard k s i v (by-signing p q) = (s, hears-now s s i v (p, inl (refl, inl (p, q))))
-  spread-heard k s i v (by-echo j p m n q) = (j, hears-now j s i v (p, inr q))
+  spread-heard k s i v (by-echo j p m q) = (j, hears-now j s i v (p, inr q))
 
   spread-other : (k s i v : ℕ) → Spreads L S (by-history s) e k s i v → Delivers e k s i v → ⊥
   spread-other k s i v (by-signing p q) d = eqb-false turning delivering refl (sym (q .kind) ∙ d .kind)
-  spread-other k s i v (by-echo j p m n q) d = m (sym (q .board) ∙ d .board)
+  spread-other k s i v (by-echo j p m q) d = m (sym (q .board) ∙ d .board)
 
   owed-out : (k s i v : ℕ) → OwedCases L S H (accepted e) k s i v
       → (inSet (receivers L (c′ .owed) s i) k ≡ true) × (signedBy L c′ s i ≡ entryOf v)
@@ -325,7 +318,7 @@ module _ (L : Limits) (S : Setup) (g : Ground L S) (H : History) (c : Bench) (f 
             (inr (
               hears-spreads L c a c′ (w .change) k (h .0) s i v (h .1) m (not-k v),
               record {
-                is-sound = on-bench k p;
+                is-sound = sound-on-bench L S c f k p;
                 other = m;
                 not-heard = unheard-yet k s i v z n (heardBy L c k s i) refl;
               },
@@ -337,7 +330,7 @@ module _ (L : Limits) (S : Setup) (g : Ground L S) (H : History) (c : Bench) (f 
           → (x : ℕ) → heardBy L c k s i ≡ x → heardBy L c k s i ≡ 0
       unheard-yet k s i v z n zero d = d
       unheard-yet k s i v z n (suc u) d =
-          let q : u ≡ v = one-value s i u v (r .signed-on s i u (inl (f .told k s i u d))) z in
+          let q : u ≡ v = one-value s i u v (r .signed-on s i u (inl (f .heard-was-signed k s i u d))) z in
           absurd (n (y .delivered k s i v .1 (d ∙ ap entryOf q)))
 
   -- what is owed was signed, when it was owed before
@@ -351,7 +344,7 @@ module _ (L : Limits) (S : Setup) (g : Ground L S) (H : History) (c : Bench) (f 
       go : (x : ℕ) → heardBy L c (l .holder) s i ≡ x → signedBy L c s i ≡ entryOf v
       go zero d = absurd (l .holder-has d)
       go (suc u) d =
-          let q : signedBy L c s i ≡ entryOf u = f .told (l .holder) s i u d in
+          let q : signedBy L c s i ≡ entryOf u = f .heard-was-signed (l .holder) s i u d in
           q ∙ ap entryOf (one-value s i u v (r .signed-on s i u (inl q)) z)
 
   -- what board a newly hears of s spreads: a signs it, or echoes it
@@ -363,33 +356,15 @@ module _ (L : Limits) (S : Setup) (g : Ground L S) (H : History) (c : Bench) (f 
       ⊎-elim
       (λ (u : Sound L S a × TurnSigns L S (by-history a) e a i v).
       subst⁻¹ (λ (m : ℕ). Spreads L S (by-history m) e k m i v) (q .0) (by-signing (u .0) (u .1)))
-      (λ (u : Faulty L S a × Asks e a i v). absurd (true≢false (sym (on-bus a p) ∙ u .0 .1)))
+      (λ (u : Faulty L S a × Asks e a i v). absurd (true≢false (sym (sound-on-bus L S c f a p) ∙ u .0 .1)))
       (q .1))
       (λ (q : Delivers e a s i v).
       by-echo
       a
-      (on-bus a p)
+      (sound-on-bus L S c f a p)
       (λ (m : a ≡ k). n (subst (λ (j : ℕ). Hears-new a news j s i v) m h))
-      (λ (m : a ≡ s). not-own m q)
       q)
       (now-hears a s i v h .1)
-    where
-      not-own : a ≡ s → Delivers e a s i v → ⊥
-      not-own m q =
-          ⊎-elim
-          (λ (u : signedBy L c s i ≡ entryOf v).
-          suc-zero
-          v
-          (sym (f .own a i v p (ap (λ (j : ℕ). signedBy L c j i) m ∙ u))
-          ∙ ap (λ (j : ℕ). heardBy L c a j i) m
-          ∙ new-unheard L S g c f a c′ (w .change) a s i v h))
-          (λ (u : Signs-new a news s i v).
-          ⊎-elim
-          (λ (x : Sound L S s × TurnSigns L S (by-history s) e s i v).
-          eqb-false turning delivering refl (sym (x .1 .kind) ∙ q .kind))
-          (λ (x : Faulty L S s × Asks e s i v). eqb-false signing delivering refl (sym (x .1 .kind) ∙ q .kind))
-          (now-signs s i v u))
-          (hears-signs L c a c′ (w .change) a s i v h)
 
   owed-in : (k s i v : ℕ) → inSet (receivers L (c′ .owed) s i) k ≡ true → signedBy L c′ s i ≡ entryOf v → Owed L S H′ k s i v
   owed-in k s i v t z =
@@ -405,7 +380,7 @@ module _ (L : Limits) (S : Setup) (g : Ground L S) (H : History) (c : Bench) (f 
       i
       v
       (y .owed k s i v .1 (p, owed-signed k s i v p z))
-      (λ q d. o .not-now k s i v t (hears-now k s i v (on-bus k (f .owed-lacking k s i p .is-sound), inr d))))
+      (λ q d. o .not-now k s i v t (hears-now k s i v (sound-on-bus L S c f k (f .owed-lacking k s i p .is-sound), inr d))))
       (λ (p : Spreads-new a news k s i × Lacks-it L c k s i).
       let h = spreads-hears L c a c′ (w .change) k s i (p .0) in
       owed-new
@@ -417,10 +392,10 @@ module _ (L : Limits) (S : Setup) (g : Ground L S) (H : History) (c : Bench) (f 
       s
       i
       v
-      (on-bus k (p .1 .is-sound))
+      (sound-on-bus L S c f k (p .1 .is-sound))
       (p .1 .other)
       (echo-spreads k s i v (h .0) (heard-is a s i (h .1 .0) v (h .1 .1) z) (o .not-now k s i v t))
-      (λ (d : Delivered L S H k s i v). suc-zero v (sym (y .delivered k s i v .0 d) ∙ p .1 .not-heard)))
+      (λ (d : Delivered L S H k s i v). entry-some v (sym (y .delivered k s i v .0 d) ∙ p .1 .not-heard)))
       (o .owed-back k s i t)
 
   pub tells-accepted : Tells L S H′ c′

@@ -2,7 +2,7 @@
 use Prim.Native.Nat.{ℕ}
 use mathlib.Core.Bool.{Bool}
 use lib.Dec.{eqb}
-use Rattle.vote.specs.Turns.{numberOf}
+use Rattle.vote.specs.Turns.{turnNumber}
 use Rattle.vote.specs.declared.turn.Answer.the-variants.{Done, NotStarted, Ended, Waiting}
 use Rattle.bench.specs.declared.answer.Answer.{Answer}
 use Rattle.bench.specs.declared.answer.Answer.the-variants.{
@@ -32,20 +32,20 @@ freshNumber NoMark = 3
 
 -- The answers to an event. What a board itself answers to its turn has the vote's number: 0, 15, 16 and 22.
 unfoldable pub answerNumber : Answer → ℕ
-answerNumber Accepted = numberOf Done
+answerNumber Accepted = turnNumber Done
 answerNumber NoKind = 10
 answerNumber NoBoard = 11
 answerNumber WrongField = 12
 answerNumber WrongMark = 13
 answerNumber SameBoard = 14
-answerNumber WrongStart = numberOf NotStarted
-answerNumber AtEnd = numberOf Ended
+answerNumber WrongStart = turnNumber NotStarted
+answerNumber AtEnd = turnNumber Ended
 answerNumber NotSigned = 17
 answerNumber NotAbove = 18
 answerNumber HasIt = 19
 answerNumber NotDecided = 20
 answerNumber FewBallots = 21
-answerNumber MustWait = numberOf Waiting
+answerNumber MustWait = turnNumber Waiting
 
 -- an event is accepted if it is answered 0
 unfoldable pub isAccepted : Answer → Bool

@@ -17,7 +17,7 @@ use Rattle.bench.specs.Events.{proposing, turning, delivering, announcin
 use Rattle.bench.specs.Benches.{heardBy, signedBy}
 use Rattle.bench.specs.Setups.{Setup, setup}
 use Rattle.bench.specs.Shows.{decidedAs, shown}
-use Rattle.bench.specs.Story.{History, Standing, moveOf, saying, at}
+use Rattle.bench.specs.Story.{History, Standing, moveOf, saying, standingAfter}
 use Rattle.bench.specs.declared.bench.Bench.{Bench}
 use Rattle.bench.specs.declared.event.Event.{Event}
 
@@ -84,7 +84,7 @@ module _ (L : Limits) (S : Setup) where
   Proposed H k v = Once H (λ (B : History) (e : Event). Proposes e k v)
 
   abbrev pub SignedInTurn : History → ℕ → ℕ → ℕ → Type 0
-  SignedInTurn H k i v = Once H (λ (B : History) (e : Event). TurnSigns (at L (S .n) k B) e k i v)
+  SignedInTurn H k i v = Once H (λ (B : History) (e : Event). TurnSigns (standingAfter L (S .n) k B) e k i v)
 
   abbrev pub Asked : History → ℕ → ℕ → ℕ → Type 0
   Asked H k i v = Once H (λ (B : History) (e : Event). Asks e k i v)
@@ -102,13 +102,13 @@ module _ (L : Limits) (S : Setup) where
   Decided H k r v =
       Sound k
       × (Once H (λ (B : History) (e : Event). Announces e k r v)
-      ⊎ Once H (λ (B : History) (e : Event). TurnDecides (at L (S .n) k B) e k r v))
+      ⊎ Once H (λ (B : History) (e : Event). TurnDecides (standingAfter L (S .n) k B) e k r v))
 
   -- An event makes a copy of a statement of s become owed to k, if k lacks it: s is sound, stands so and signs it in a turn,
-  -- or a sound board other than k and s delivers it.
+  -- or a sound board other than k delivers it.
   pub data Spreads (t : Standing) (e : Event) (k s i v : ℕ) : Type 0 where
     by-signing : Sound s → TurnSigns t e s i v → Spreads t e k s i v
-    by-echo : (j : ℕ) → Sound j → (j ≡ k → ⊥) → (j ≡ s → ⊥) → Delivers e j s i v → Spreads t e k s i v
+    by-echo : (j : ℕ) → Sound j → (j ≡ k → ⊥) → Delivers e j s i v → Spreads t e k s i v
 
   -- A copy of what s said is owed to k, another sound board: it became owed at some moment when k had not delivered the
   -- statement, and has not been delivered to k since.
@@ -116,7 +116,7 @@ module _ (L : Limits) (S : Setup) where
     pub is-sound : Sound k
     pub other : k ≡ s → ⊥
     pub moment : Moment H
-    pub spreads : Spreads (at L (S .n) s (moment .before)) (moment .event) k s i v
+    pub spreads : Spreads (standingAfter L (S .n) s (moment .before)) (moment .event) k s i v
     pub not-before : Delivered (moment .before) k s i v → ⊥
     pub not-since : Reached (moment .later) k s i v → ⊥
 
@@ -134,8 +134,8 @@ module _ (L : Limits) (S : Setup) where
   abbrev pub AllAlike : History → Type 0
   AllAlike H = (j k : ℕ) → Sound j → Sound k → (s i v : ℕ) → Delivered H j s i v → Delivered H k s i v
 
-  -- the bench shows exactly these decisions, deliveries, signatures and owed copies, and no board to which nothing is owed
-  -- as one to which something is
+  -- the bench shows exactly these decisions, deliveries, signatures and owed copies; and it marks no board as owed a copy
+  -- to which none is owed
   pub record Shows (H : History) (c : Bench) : Type 0 where
     pub decided : (k r v : ℕ) → Decided H k r v ↔ (shown L c k ≡ decidedAs r v)
     pub delivered : (k s i v : ℕ) → Delivered H k s i v ↔ (heardBy L c k s i ≡ entryOf v)
@@ -143,9 +143,9 @@ module _ (L : Limits) (S : Setup) where
     pub owed : (k s i v : ℕ) → Owed H k s i v ↔ ((inSet (receivers L (c .owed) s i) k ≡ true) × (signedBy L c s i ≡ entryOf v))
     pub no-more : (k s i : ℕ) → inSet (receivers L (c .owed) s i) k ≡ true → (v : ℕ) × Owed H k s i v
 
--- Demand 3: whatever n and the marks are, of a history H that they start and the bench c that it leads to. Any two sound
--- boards that decided, or one that did so twice, decided the same value; a decided value has an origin; no copy is owed
--- exactly when all sound boards have delivered the same; and the bench shows all this.
+-- Demand 3, of a history H that starts from n and the marks, whatever these are, and of the bench c after it. Any two
+-- sound boards that decided, or one that did so twice, decided the same value; a decided value has an origin; no copy is
+-- owed exactly when all sound boards have delivered the same; and the bench shows all this.
 pub record Agreement (L : Limits) (n : ℕ) (marks : List ℕ) (H : History) (c : Bench) : Type 0 where
   pub agreement : (j k r r′ v w : ℕ) → Decided L (setup L n marks) H j r v → Decided L (setup L n marks) H k r′ w → v ≡ w
   pub validity : (k r v : ℕ) → Decided L (setup L n marks) H k r v → Origin L (setup L n marks) H v

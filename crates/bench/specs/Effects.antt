@@ -62,14 +62,17 @@ afterHearing L c k s =
     k
     (deliverTo L (boardAt L c k) s)
 
+-- the statement that a delivery brings
+abbrev pub brought : Event → Statement
+brought e = record { speaker = e .b; id = record { 0 = e .id }; value = e .value }
+
 -- what an accepted event does, by its kind; the last is the signature of a faulty board
 unfoldable pub effectOf : Limits → Bench → Event → Bench
 effectOf L c e =
     let board = boardAt L c (e .a) in
     if eqb (e .kind) proposing then withBoardAt c (e .a) (propose board (e .value))
     else if eqb (e .kind) turning then afterTurn L c (e .a)
-    else if eqb (e .kind) delivering
-    then afterHearing L c (e .a) (record { speaker = e .b; id = record { 0 = e .id }; value = e .value })
+    else if eqb (e .kind) delivering then afterHearing L c (e .a) (brought e)
     else if eqb (e .kind) announcing then withBoardAt c (e .a) (announce L (c .n) board (e .id) (e .value))
     else if eqb (e .kind) suspecting then withBoardAt c (e .a) (suspect board (e .b))
     else if eqb (e .kind) trusting then withBoardAt c (e .a) (trust board (e .b))

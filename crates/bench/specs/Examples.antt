@@ -9,11 +9,9 @@ use Rattle.delivery.specs.Rounds.{identifierOf}
 use Rattle.delivery.specs.declared.round.Phase.the-variants.{Ballot}
 use Rattle.bench.specs.Events.{proposing, turning, delivering, announcing, suspecting, signing}
 use Rattle.bench.specs.Benches.{heardBy}
-use Rattle.bench.specs.Setups.{freshBench}
 use Rattle.bench.specs.Answers.{answerNumber}
-use Rattle.bench.specs.Runs.{after, answersTo}
+use Rattle.bench.specs.Runs.{answersTo, benchAfter, answersFrom}
 use Rattle.bench.specs.Shows.{plain, decidedAs, shown}
-use Rattle.bench.specs.declared.bench.Bench.{Bench}
 use Rattle.bench.specs.declared.event.Event.{Event}
 use Rattle.bench.specs.declared.answer.Answer.the-variants.{AtEnd}
 use Rattle.bench.specs.declared.show.Letter.the-variants.{Voting}
@@ -39,13 +37,6 @@ suspect a b = event suspecting a b 0 0
 
 abbrev pub sign : ℕ → ℕ → ℕ → Event
 sign a i v = event signing a 0 i v
-
--- the answers to a list, and the bench after it, from n boards and their marks
-abbrev pub answersFrom : ℕ → List ℕ → List Event → List ℕ
-answersFrom n marks es = answersTo limits (freshBench limits n marks) es
-
-abbrev pub benchAfter : ℕ → List ℕ → List Event → Bench
-benchAfter n marks es = after limits (freshBench limits n marks) es
 
 -- letter l: a board alone proposes 700 and takes three turns
 abbrev pub alone : List Event
@@ -137,18 +128,18 @@ twoFaulty =
     ∷ []
 
 pub record Examples : Type 0 where
-  pub letter-l : answersFrom 1 (0 ∷ []) alone ≡ 0 ∷ 0 ∷ 0 ∷ 0 ∷ []
-  pub letter-l-shown : shown limits (benchAfter 1 (0 ∷ []) alone) 1 ≡ decidedAs 1 700
+  pub letter-l : answersFrom limits 1 (0 ∷ []) alone ≡ 0 ∷ 0 ∷ 0 ∷ 0 ∷ []
+  pub letter-l-shown : shown limits (benchAfter limits 1 (0 ∷ []) alone) 1 ≡ decidedAs 1 700
   -- the same list, where the call for the fresh bench is refused and gives one sound board
-  pub refused : shown limits (benchAfter 9 [] alone) 1 ≡ decidedAs 1 700
+  pub refused : shown limits (benchAfter limits 9 [] alone) 1 ≡ decidedAs 1 700
   -- board 3 does not take 40: it stands in round 2 with 41, and its ballot there is blank
-  pub estimate : shown limits (benchAfter 3 (0 ∷ 1 ∷ 0 ∷ []) incident) 3 ≡ plain Voting 2 41
-  pub ballot : heardBy limits (benchAfter 3 (0 ∷ 1 ∷ 0 ∷ []) incident) 3 3 (identifierOf limits Ballot 2) ≡ entryOf 0
+  pub estimate : shown limits (benchAfter limits 3 (0 ∷ 1 ∷ 0 ∷ []) incident) 3 ≡ plain Voting 2 41
+  pub ballot : heardBy limits (benchAfter limits 3 (0 ∷ 1 ∷ 0 ∷ []) incident) 3 3 (identifierOf limits Ballot 2) ≡ entryOf 0
   -- and the announcement is believed once both ballots are there
-  pub announced : answersTo limits (benchAfter 3 (0 ∷ 1 ∷ 0 ∷ []) incident) announcements ≡ 21 ∷ 21 ∷ 0 ∷ 0 ∷ []
-  pub decided : shown limits (benchAfter 3 (0 ∷ 1 ∷ 0 ∷ []) (incident ++ announcements)) 3 ≡ decidedAs 1 41
+  pub announced : answersTo limits (benchAfter limits 3 (0 ∷ 1 ∷ 0 ∷ []) incident) announcements ≡ 21 ∷ 21 ∷ 0 ∷ 0 ∷ []
+  pub decided : shown limits (benchAfter limits 3 (0 ∷ 1 ∷ 0 ∷ []) (incident ++ announcements)) 3 ≡ decidedAs 1 41
   -- every row
-  pub rows : answersFrom 3 (0 ∷ 0 ∷ 1 ∷ []) everyRow
+  pub rows : answersFrom limits 3 (0 ∷ 0 ∷ 1 ∷ []) everyRow
       ≡ 10 ∷ 11 ∷ 12 ∷ 13 ∷ 14 ∷ 15 ∷ 0 ∷ 0 ∷ 0 ∷ 0 ∷ 0 ∷ 0 ∷ 0 ∷ answerNumber AtEnd ∷ 17 ∷ 18 ∷ 19 ∷ 0 ∷ 20 ∷ 21 ∷ 0 ∷ 22 ∷ []
   -- no majority of sound boards is needed
-  pub faulty-opened : shown limits (benchAfter 3 (0 ∷ 1 ∷ 1 ∷ []) twoFaulty) 1 ≡ decidedAs 2 50
+  pub faulty-opened : shown limits (benchAfter limits 3 (0 ∷ 1 ∷ 1 ∷ []) twoFaulty) 1 ≡ decidedAs 2 50

@@ -1,7 +1,8 @@
--- What a reader must believe of the bench. First the machine, in the order of document 01: "Events" (Events, Benches,
--- Effects), "Where an event or file stops" (Setups, Answers, Table), and both together for a list of events (Runs), with
--- the letters that a bench shows (Shows). Then what a history says without looking at any bench (Story), demand 3 as one
--- claim about it (Claim), and the three demands (Demands). Last, what the calls within promise by (Parts).
+-- What a reader must believe of the bench. First the machine: the kinds of events and what a bench holds (Events,
+-- Benches); a fresh bench, the answers and the table (Setups, Answers, Table); what an accepted event does, and one event
+-- as a whole (Effects, which needs the table); lists of events (Runs), the letters (Shows) and worked examples (Examples).
+-- Then what a history says without looking at any bench (Story), demand 3 as one claim about it (Claim), and the three
+-- demands (Demands). Last, by what the private calls promise (Parts); no open contract needs it.
 pub mod Events
 pub mod Benches
 pub mod Setups

@@ -64,9 +64,9 @@ pub record Checks (L : Limits) (c : Bench) (e : Event) (r : Answer) : Type 0 whe
   pub rest : checkOf L c e ≡ thenLast r (turnRow L c e)
 
 -- the signer of a board that had this to say
-unfoldable pub signerBy : Limits → Signer → Said → Signer
-signerBy L s Nothing = s
-signerBy L s (One x) = sign (L .identifiers) s (x .id .0) (x .value) .signer
+unfoldable pub signerAfter : Limits → Signer → Said → Signer
+signerAfter L s Nothing = s
+signerAfter L s (One x) = sign (L .identifiers) s (x .id .0) (x .value) .signer
 
 -- the copies that are owed once this was said in a turn, or delivered
 unfoldable pub owedBy : Limits → Bench → Event → Said → Owed

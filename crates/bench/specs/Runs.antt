@@ -15,8 +15,8 @@ use Rattle.bench.specs.declared.play.Played.{Played as PlayedList}
 use Rattle.bench.specs.declared.play.Ending.{Ending}
 use Rattle.bench.specs.declared.play.Ending.the-variants.{Played, Ragged, Short}
 
--- the bench after a list of events, and the numbers of their answers. Each event gets the bench that the one before it
--- left.
+-- the bench after a list of events, and the numbers of their answers. Each event is played on the bench that the
+-- last one left behind.
 unfoldable pub after : Limits → Bench → List Event → Bench
 after L c [] = c
 after L c (e ∷ es) = after L (stepOf L c e .bench) es
@@ -24,6 +24,13 @@ after L c (e ∷ es) = after L (stepOf L c e .bench) es
 unfoldable pub answersTo : Limits → Bench → List Event → List ℕ
 answersTo L c [] = []
 answersTo L c (e ∷ es) = answerNumber (stepOf L c e .answer) ∷ answersTo L (stepOf L c e .bench) es
+
+-- the same from the fresh bench of n boards and their marks
+abbrev pub benchAfter : Limits → ℕ → List ℕ → List Event → Bench
+benchAfter L n marks es = after L (freshBench L n marks) es
+
+abbrev pub answersFrom : Limits → ℕ → List ℕ → List Event → List ℕ
+answersFrom L n marks es = answersTo L (freshBench L n marks) es
 
 -- so many events, from the bytes at the head of a list
 unfoldable pub eventsIn : ℕ → List ℕ → List Event
@@ -52,10 +59,10 @@ written xs ys = xs ++ drop (length xs) ys
 unfoldable pub playedOf : Limits → ℕ → List ℕ → List ℕ → ℕ → PlayedList
 playedOf L n marks bs room =
     record {
-      bench = after L (freshBench L n marks) (eventsPlayed bs room);
+      bench = benchAfter L n marks (eventsPlayed bs room);
       answer = freshAnswer L n marks;
       ending = endingOf (length bs) room;
     }
 
 unfoldable pub answersAfter : Limits → ℕ → List ℕ → List ℕ → List ℕ → List ℕ
-answersAfter L n marks bs room = written (answersTo L (freshBench L n marks) (eventsPlayed bs (length room))) room
+answersAfter L n marks bs buf = written (answersFrom L n marks (eventsPlayed bs (length buf))) buf

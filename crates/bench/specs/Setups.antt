@@ -19,18 +19,18 @@ use Rattle.bench.specs.declared.answer.FreshAnswer.{FreshAnswer}
 use Rattle.bench.specs.declared.answer.FreshAnswer.the-variants.{Made, NoBus, NoMark}
 
 -- a mark is 0, sound, or 1, faulty; board k's is the k-th
-abbrev pub isMarkByte : ℕ → Bool
-isMarkByte m = leb m 1
+abbrev pub isMark : ℕ → Bool
+isMark m = leb m 1
 
-unfoldable pub isMark : List ℕ → ℕ → Bool
-isMark marks k = isMarkByte (nth marks k 0)
+unfoldable pub isMarkAt : List ℕ → ℕ → Bool
+isMarkAt marks k = isMark (nth marks k 0)
 
 unfoldable pub isMarkedSound : List ℕ → ℕ → Bool
 isMarkedSound marks k = eqb (nth marks k 0) 0
 
 -- the answer to the call: n is looked at first, then the marks of boards 1 to n, and no others
 unfoldable pub freshAnswer : Limits → ℕ → List ℕ → FreshAnswer
-freshAnswer L n marks = if isBoard L n then (if everyIn n (isMark marks) then Made else NoMark) else NoBus
+freshAnswer L n marks = if isBoard L n then (if everyIn n (isMarkAt marks) then Made else NoMark) else NoBus
 
 -- how many boards there are, and which are sound
 pub record Setup : Type 0 where

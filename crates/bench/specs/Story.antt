@@ -9,7 +9,7 @@ use Rattle.delivery.specs.Tests.{_and_}
 use Rattle.delivery.specs.Limits.{Limits}
 use Rattle.delivery.specs.Sets.{withBoard, withoutBoard}
 use Rattle.delivery.specs.Delivered.{Store}
-use Rattle.vote.specs.Boards.{freshPosition, startingWith}
+use Rattle.vote.specs.Boards.{freshPosition, startingWith, withSuspected}
 use Rattle.vote.specs.Rule.{rule}
 use Rattle.vote.specs.Turns.{positionAfter, saidIn}
 use Rattle.vote.specs.declared.position.Position.{Position}
@@ -41,10 +41,6 @@ pub record Standing : Type 0 where
 unfoldable pub outset : Standing
 outset = record { position = freshPosition; heard = λ (s i : ℕ). 0 }
 
--- other boards are suspected
-abbrev suspectingIn : Position → ℕ → Position
-suspectingIn p m = record { round = p .round; estimate = p .estimate; stage = p .stage; suspected = m }
-
 -- a statement is heard
 unfoldable pub hearing : Store → ℕ → ℕ → ℕ → Store
 hearing h s i v s′ i′ = if eqb s′ s and eqb i′ i then entryOf v else h s′ i′
@@ -73,18 +69,18 @@ module _ (L : Limits) (n k : ℕ) where
       else if eqb (e .kind) delivering
       then record { position = t .position; heard = hearing (t .heard) (e .b) (e .id) (e .value) }
       else if eqb (e .kind) suspecting
-      then record { position = suspectingIn (t .position) (withBoard (t .position .suspected) (e .b)); heard = t .heard }
+      then record { position = withSuspected (t .position) (withBoard (t .position .suspected) (e .b)); heard = t .heard }
       else if eqb (e .kind) trusting
-      then record { position = suspectingIn (t .position) (withoutBoard (t .position .suspected) (e .b)); heard = t .heard }
+      then record { position = withSuspected (t .position) (withoutBoard (t .position .suspected) (e .b)); heard = t .heard }
       else t
 
-  -- one entry of a history, and all of it
-  unfoldable pub told : Standing → Entry → Standing
-  told t x = if eqb (x .answer) 0 and eqb (x .event .a) k then believing t (x .event) else t
+  -- where it stands after one entry of a history, after some, and after all of it
+  unfoldable pub afterEntry : Standing → Entry → Standing
+  afterEntry t x = if eqb (x .answer) 0 and eqb (x .event .a) k then believing t (x .event) else t
 
-  unfoldable pub toldFrom : Standing → History → Standing
-  toldFrom t [] = t
-  toldFrom t (x ∷ H) = toldFrom (told t x) H
+  unfoldable pub afterEntries : Standing → History → Standing
+  afterEntries t [] = t
+  afterEntries t (x ∷ H) = afterEntries (afterEntry t x) H
 
-  unfoldable pub at : History → Standing
-  at H = toldFrom outset H
+  unfoldable pub standingAfter : History → Standing
+  standingAfter H = afterEntries outset H

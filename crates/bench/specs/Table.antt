@@ -45,6 +45,18 @@ use Rattle.bench.specs.declared.answer.Answer.the-variants.{
 abbrev is : Event → ℕ → Bool
 is e k = eqb (e .kind) k
 
+-- what a turn of board a comes to that is answered by the last row: the board waits; or, which no bench that was played
+-- from a fresh one comes to, its signer refuses what it says
+unfoldable pub isWaiting : TurnAnswer → Bool
+isWaiting Done = false
+isWaiting NotStarted = false
+isWaiting Ended = false
+isWaiting Waiting = true
+
+unfoldable pub refuses : Limits → Signer → Said → Bool
+refuses L s Nothing = false
+refuses L s (One x) = neg (grants (L .identifiers) s (x .id .0))
+
 -- 10: the kind is none
 unfoldable pub kindRow : Event → Bool
 kindRow e = neg (isWithin signing (e .kind))
@@ -79,18 +91,6 @@ markRow c e = (is e signing and isSound c (e .a)) or (neg (is e signing) and neg
 -- 14: an announcement, suspicion or trust of a board about itself
 unfoldable pub pairRow : Event → Bool
 pairRow e = (is e announcing or is e suspecting or is e trusting) and eqb (e .a) (e .b)
-
--- what a turn of board a comes to that is answered by the last row: the board waits; or, which no bench that was played
--- from a fresh one comes to, its signer refuses what it says
-unfoldable pub isWaiting : TurnAnswer → Bool
-isWaiting Done = false
-isWaiting NotStarted = false
-isWaiting Ended = false
-isWaiting Waiting = true
-
-unfoldable pub refuses : Limits → Signer → Said → Bool
-refuses L s Nothing = false
-refuses L s (One x) = neg (grants (L .identifiers) s (x .id .0))
 
 module _ (L : Limits) (c : Bench) (e : Event) where
   -- 15: a proposal to a board that has started, a turn of or an announcement to one that has not

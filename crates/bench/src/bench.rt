@@ -92,12 +92,4 @@ impl Bench {
         }
         have
     }
-
-    // The boards that have delivered a speaker's statement under an identifier.
-    pub fn holders(self, speaker: u8, id: Identifier) -> u16
-        ensures { λ r. ⌜ r ≡ holders limits self speaker (id .0) ⌝ }
-    {
-        let boards = self.boards;
-        Bench::holders_in(boards, speaker, id)
-    }
 }

@@ -4,7 +4,7 @@ ghost use Rattle.bench.specs.Events.{turning, delivering};
 ghost use Rattle.bench.specs.Benches.{boardAt, signerAt};
 ghost use Rattle.bench.specs.Table.{turnRow, checkOf};
 ghost use Rattle.bench.specs.Effects.{effectOf, stepOf};
-ghost use Rattle.bench.specs.Parts.{Has, Own, lastOf, signerBy, owedBy, silent, withParts, putBack, Steps};
+ghost use Rattle.bench.specs.Parts.{Has, Own, lastOf, signerAfter, owedBy, silent, withParts, putBack, Steps};
 ghost use Rattle.bench.specs.declared.answer.Answer.the-variants.{Accepted};
 ghost use Rattle.bench.specs.declared.bench.Bench.{Bench};
 use crate::answer::Answer;
@@ -37,8 +37,8 @@ pub(crate) struct Effect {
 }
 
 // A signer, asked to sign what its board had to say.
-fn signing(signer: Signer, said: Said) -> Signer
-    ensures { λ r. ⌜ r ≡ signerBy limits signer said ⌝ }
+fn signer_after(signer: Signer, said: Said) -> Signer
+    ensures { λ r. ⌜ r ≡ signerAfter limits signer said ⌝ }
 {
     match said {
         Said::Nothing => signer,
@@ -73,7 +73,7 @@ impl Event {
             return Effect::silent(Answer::MustWait, a, own);
         }
         let board = turn.board;
-        let signer = signing(own, said);
+        let signer = signer_after(own, said);
         let answer = Answer::Accepted;
         Effect {
             answer,

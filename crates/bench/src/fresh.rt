@@ -4,7 +4,7 @@ ghost use Rattle.delivery.specs.Limits.{limits};
 ghost use Rattle.delivery.specs.Counting.{everyIn};
 ghost use Rattle.delivery.specs.Sets.{setOf};
 ghost use Rattle.signer.specs.FromOne.{nth};
-ghost use Rattle.bench.specs.Setups.{isMarkByte, isMark, isMarkedSound, alone, freshOf, benchOf};
+ghost use Rattle.bench.specs.Setups.{isMark, isMarkAt, isMarkedSound, alone, freshOf, benchOf};
 use crate::answer::FreshAnswer;
 use crate::bench::Bench;
 use delivery::Delivered;
@@ -31,7 +31,7 @@ fn mark(marks: [u8; Bench::BOARDS as usize], k: u8) -> u8
 
 // Whether the marks of boards 1 to n are marks.
 fn are_marks(marks: [u8; Bench::BOARDS as usize], n: u8) -> bool
-    ensures { λ r. ⌜ r ≡ everyIn n (isMark marks) ⌝ }
+    ensures { λ r. ⌜ r ≡ everyIn n (isMarkAt marks) ⌝ }
 {
     let mut k = 0u8;
     while k < n {
@@ -62,7 +62,7 @@ fn sound_of(marks: [u8; Bench::BOARDS as usize], n: u8) -> u16
 impl Bench {
     // Whether a byte is a mark at all: 0 or 1.
     pub fn is_mark(byte: u8) -> bool
-        ensures { λ r. ⌜ r ≡ isMarkByte byte ⌝ }
+        ensures { λ r. ⌜ r ≡ isMark byte ⌝ }
     {
         byte <= 1
     }

@@ -30,7 +30,7 @@ pub struct Played {
 }
 
 // Whether the events of a list can be played, given the room for answers.
-fn how_it_ends(bytes: usize, room: usize) -> Ending
+fn ending_of(bytes: usize, room: usize) -> Ending
     ensures { λ r. ⌜ r ≡ endingOf bytes room ⌝ }
 {
     if bytes % Event::BYTES != 0 {
@@ -108,7 +108,7 @@ impl Bench {
         let fresh = Bench::fresh(n, marks);
         let bench = fresh.bench;
         let answer = fresh.answer;
-        let ending = how_it_ends(events.len(), answers.len());
+        let ending = ending_of(events.len(), answers.len());
         match ending {
             Ending::Played => {
                 let count = events.len() / Event::BYTES;

@@ -361,6 +361,33 @@ fn copies() {
     play_schedule(b"and board 3 hears it\n", 3, NONE, &echo);
 }
 
+// Board 1 opens round 1 with 700: what it has signed so, and what boards 1 and 2 have delivered of it. A log's entry is
+// one more than the value, and 0 where there is none.
+fn opening() {
+    let propose = Event {
+        kind: Event::PROPOSE,
+        a: 1,
+        b: 0,
+        id: 0,
+        value: 700,
+    };
+    let turn = Event {
+        kind: Event::TURN,
+        a: 1,
+        b: 0,
+        id: 0,
+        value: 0,
+    };
+    let bench = Bench::fresh(3, NONE).bench;
+    let proposed = bench.event(propose).bench;
+    let opened = proposed.event(turn).bench;
+    let id = Identifier(1);
+    write(b"board 1 opens round 1 with 700\n");
+    write_last(b"signed", opened.signed(1, id) as u64);
+    write_last(b"delivered by 1", opened.delivered(1, 1, id) as u64);
+    write_last(b"delivered by 2", opened.delivered(2, 1, id) as u64);
+}
+
 // Lists that cannot be played: one event and a byte, and four events with room for three answers.
 fn not_played() {
     let alone = ALONE;
@@ -429,6 +456,7 @@ fn main() {
     votes();
     calls();
     copies();
+    opening();
     not_played();
     later_turns();
 }

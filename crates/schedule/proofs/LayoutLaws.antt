@@ -15,7 +15,7 @@ use Rattle.delivery.specs.Limits.{Limits}
 use Rattle.delivery.specs.Bus.{isBoard}
 use Rattle.delivery.proofs.TestLaws.{decided}
 use Rattle.bench.specs.Events.{highFirst, eventBytes, eventFrom}
-use Rattle.bench.specs.Setups.{isMarkByte}
+use Rattle.bench.specs.Setups.{isMark}
 use Rattle.bench.specs.declared.event.Event.{Event}
 use Rattle.bench.proofs.RunLaws.{event-bytes}
 use Rattle.schedule.specs.Files.{
@@ -70,22 +70,22 @@ byte-read : (b : ℕ) (rest : List ℕ) → byteDue (b ∷ rest) ≡ got b rest
 unfolding byteDue
 byte-read b rest = refl
 
-pub mark-undoes : Undoes markDue (λ (m : ℕ). m ∷ []) (λ (m : ℕ). isMarkByte m ≡ true)
+pub mark-undoes : Undoes markDue (λ (m : ℕ). m ∷ []) (λ (m : ℕ). isMark m ≡ true)
 unfolding markDue
 mark-undoes =
     record {
       was-laid = λ bs m rest e. laid-by bs m rest (next-went _ (byteDue bs) (got m rest) e);
-      is-read = λ m rest t. next-got _ _ m rest (byte-read m rest) ∙ if-true (isMarkByte m) (got m rest) (fault NoMark) t;
+      is-read = λ m rest t. next-got _ _ m rest (byte-read m rest) ∙ if-true (isMark m) (got m rest) (fault NoMark) t;
     }
   where
     laid-by : (bs : List ℕ) (m : ℕ) (rest : List ℕ)
-        → Went (λ (x : ℕ) (cs : List ℕ). if isMarkByte x then got x cs else fault NoMark) (byteDue bs) (got m rest)
-        → (Bytes bs → bs ≡ m ∷ rest) × (isMarkByte m ≡ true)
+        → Went (λ (x : ℕ) (cs : List ℕ). if isMark x then got x cs else fault NoMark) (byteDue bs) (got m rest)
+        → (Bytes bs → bs ≡ m ∷ rest) × (isMark m ≡ true)
     laid-by bs m rest (went x cs e g) =
-        let t = test-went (isMarkByte x) (got x cs) NoMark m rest g in
+        let t = test-went (isMark x) (got x cs) NoMark m rest g in
         let v : x ≡ m = got-value x m cs rest (t .1) in (
           λ b. byte-went bs x cs e ∙ ap (λ (y : ℕ). y ∷ cs) v ∙ ap (λ (ds : List ℕ). m ∷ ds) (got-rest x m cs rest (t .1)),
-          ap isMarkByte (sym v) ∙ t .0,
+          ap isMark (sym v) ∙ t .0,
         )
     laid-by bs m rest (stopped w e g) = absurd (got-no-fault m rest w g)
 
@@ -182,12 +182,12 @@ each-own (m ∷ ms) = ap (λ (xs : List ℕ). m ∷ xs) (each-own ms)
 
 -- n and the marks
 pub bus-laid : (L : Limits) (bs ms rest : List ℕ) → busDue L bs ≡ got ms rest
-    → (Bytes bs → bs ≡ length ms ∷ ms ++ rest) × (isBoard L (length ms) ≡ true) × All (λ m. isMarkByte m ≡ true) ms
+    → (Bytes bs → bs ≡ length ms ∷ ms ++ rest) × (isBoard L (length ms) ≡ true) × All (λ m. isMark m ≡ true) ms
 unfolding busDue
 bus-laid L bs ms rest e = first (next-went _ (byteDue bs) (got ms rest) e)
   where
     first : Went (λ (n : ℕ) (cs : List ℕ). if isBoard L n then manyDue markDue n cs else fault NoBus) (byteDue bs) (got ms rest)
-        → (Bytes bs → bs ≡ length ms ∷ ms ++ rest) × (isBoard L (length ms) ≡ true) × All (λ m. isMarkByte m ≡ true) ms
+        → (Bytes bs → bs ≡ length ms ∷ ms ++ rest) × (isBoard L (length ms) ≡ true) × All (λ m. isMark m ≡ true) ms
     first (stopped w e g) = absurd (got-no-fault ms rest w g)
     first (went n cs e g) =
         let whole = byte-went bs n cs e in
@@ -200,7 +200,7 @@ bus-laid L bs ms rest e = first (next-went _ (byteDue bs) (got ms rest) e)
           m .2,
         )
 
-bus-read : (L : Limits) (ms rest : List ℕ) → isBoard L (length ms) ≡ true → All (λ m. isMarkByte m ≡ true) ms
+bus-read : (L : Limits) (ms rest : List ℕ) → isBoard L (length ms) ≡ true → All (λ m. isMark m ≡ true) ms
     → busDue L (length ms ∷ ms ++ rest) ≡ got ms rest
 unfolding busDue
 bus-read L ms rest t a =
@@ -306,7 +306,7 @@ file-laid L bs f rest e = first (next-went _ (busDue L bs) (got f rest) e)
     first (stopped w e g) = absurd (got-no-fault f rest w g)
     first (went ms cs e g) = second (next-went _ (sectionDue cs) (got f rest) g)
       where
-        bus : (Bytes bs → bs ≡ length ms ∷ ms ++ cs) × (isBoard L (length ms) ≡ true) × All (λ m. isMarkByte m ≡ true) ms
+        bus : (Bytes bs → bs ≡ length ms ∷ ms ++ cs) × (isBoard L (length ms) ≡ true) × All (λ m. isMark m ≡ true) ms
         bus = bus-laid L bs ms cs e
 
         second : Went (λ (es : List Event) (ds : List ℕ). nothingLeft (file ms es) ds) (sectionDue cs) (got f rest)

@@ -17,7 +17,7 @@ use Rattle.delivery.specs.Limits.{Limits}
 use Rattle.delivery.specs.Bus.{isBoard}
 use Rattle.delivery.proofs.TestLaws.{decided}
 use Rattle.bench.specs.Events.{highFirst, eventBytes, eventFrom}
-use Rattle.bench.specs.Setups.{isMarkByte}
+use Rattle.bench.specs.Setups.{isMark}
 use Rattle.bench.specs.declared.event.Event.{Event}
 use Rattle.bench.proofs.RunLaws.{event-append}
 use Rattle.schedule.specs.Files.{
@@ -53,7 +53,7 @@ mark-steady =
     1
     0
     steady-byte
-    (λ m bs cs e. steady-if (isMarkByte m) (got m) (λ bs. fault NoMark) 0 (λ h. steady-got m) (λ h. steady-fault NoMark))
+    (λ m bs cs e. steady-if (isMark m) (got m) (λ bs. fault NoMark) 0 (λ h. steady-got m) (λ h. steady-fault NoMark))
 
 bus-steady : (L : Limits) → Steady (busDue L) (1 + L .boards)
 unfolding busDue

@@ -15,7 +15,7 @@ use Rattle.signer.specs.Choice.{if_then_else_}
 use Rattle.signer.proofs.ChoiceLaws.{if-true, if-false}
 use Rattle.delivery.specs.Limits.{Limits}
 use Rattle.bench.specs.Events.{highFirst, eventBytes, eventFrom}
-use Rattle.bench.specs.Setups.{isMarkByte}
+use Rattle.bench.specs.Setups.{isMark}
 use Rattle.bench.specs.Runs.{eventsIn}
 use Rattle.bench.specs.declared.event.Event.{Event}
 use Rattle.bench.proofs.RunLaws.{events-none, events-more, length-events}
@@ -81,12 +81,12 @@ module _ (n k : ℕ) (bs : List ℕ) (h : k < n) where
     here = rw (add-one, drop-cons bs k 0)
 
     -- or it is no mark
-    pub marks-wrong : isMarkByte (getD bs k 0) ≡ false → marksLeft n k bs ≡ fault NoMark
+    pub marks-wrong : isMark (getD bs k 0) ≡ false → marksLeft n k bs ≡ fault NoMark
     unfolding markDue byteDue next
-    marks-wrong t = left-stops NoMark (ap markDue here ∙ if-false (isMarkByte (getD bs k 0)) _ _ t)
+    marks-wrong t = left-stops NoMark (ap markDue here ∙ if-false (isMark (getD bs k 0)) _ _ t)
 
     -- or it is one, and the others are left
-    pub marks-next : isMarkByte (getD bs k 0) ≡ true → marksLeft n k bs ≡ marksLeft n (k + 1) bs
+    pub marks-next : isMark (getD bs k 0) ≡ true → marksLeft n k bs ≡ marksLeft n (k + 1) bs
     unfolding next
     marks-next t =
         ap

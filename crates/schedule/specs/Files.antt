@@ -8,7 +8,7 @@ use Rattle.signer.specs.Choice.{if_then_else_}
 use Rattle.delivery.specs.Limits.{Limits}
 use Rattle.delivery.specs.Bus.{isBoard}
 use Rattle.bench.specs.Events.{highFirst, eventBytes, eventFrom}
-use Rattle.bench.specs.Setups.{isMarkByte}
+use Rattle.bench.specs.Setups.{isMark}
 use Rattle.bench.specs.Answers.{freshNumber}
 use Rattle.bench.specs.declared.event.Event.{Event}
 use Rattle.bench.specs.declared.answer.FreshAnswer.the-variants as fresh
@@ -52,7 +52,7 @@ manyDue p (suc k) bs = next (p bs) (λ x rest. next (manyDue p k rest) (λ xs re
 -- The first section: n, and the marks of boards 1 to n, each looked at as it comes. What it says is the marks; n is how
 -- many they are.
 unfoldable pub markDue : List ℕ → Reading ℕ
-markDue bs = next (byteDue bs) (λ m rest. if isMarkByte m then got m rest else fault NoMark)
+markDue bs = next (byteDue bs) (λ m rest. if isMark m then got m rest else fault NoMark)
 
 abbrev pub marksDue : ℕ → List ℕ → Reading (List ℕ)
 marksDue n bs = manyDue markDue n bs

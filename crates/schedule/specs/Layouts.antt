@@ -6,7 +6,7 @@ use mathlib.Core.List.{List, [], _∷_, _++_}
 use lib.ListN.{length}
 use Rattle.delivery.specs.Limits.{Limits}
 use Rattle.delivery.specs.Bus.{isBoard}
-use Rattle.bench.specs.Setups.{isMarkByte}
+use Rattle.bench.specs.Setups.{isMark}
 use Rattle.bench.specs.declared.event.Event.{Event}
 use Rattle.schedule.specs.Files.{mostEvents, File}
 
@@ -37,5 +37,5 @@ Bytes bs = All (λ b. b < 256) bs
 -- a schedule that a file can hold: as many boards as there can be, marks that are marks, and not too many events
 pub record Holdable (L : Limits) (f : File) : Type 0 where
   pub boards : isBoard L (length (f .marks)) ≡ true
-  pub marks : All (λ m. isMarkByte m ≡ true) (f .marks)
+  pub marks : All (λ m. isMark m ≡ true) (f .marks)
   pub few : length (f .events) ≤ mostEvents

@@ -52,6 +52,13 @@ entry-value (suc v) f =
     (λ e z. absurd (z refl))
     f
 
+-- an entry that stands for a value is not 0, and stands for that value alone
+pub entry-some : (v : ℕ) → entryOf v ≡ 0 → ⊥
+entry-some v e = omega (arith, e)
+
+pub entry-one : (v w : ℕ) → entryOf v ≡ entryOf w → v ≡ w
+entry-one v w e = omega (arith, e)
+
 -- a log that has an entry for each identifier
 pub record Whole (limit : ℕ) (l : Log) : Type 0 where
   pub whole : length (l .entries) ≡ limit

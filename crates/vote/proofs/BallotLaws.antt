@@ -19,11 +19,10 @@ use Rattle.delivery.specs.Delivered.{Store}
 use Rattle.delivery.specs.Acceptance.{says, bears, acceptsOpening, acceptsBallot, acceptsSome}
 use Rattle.delivery.specs.declared.round.Phase.the-variants.{Ballot}
 use Rattle.delivery.proofs.TestLaws.{and-left, and-right, and-in, fails}
-use Rattle.delivery.proofs.CountLaws.{find, count-some, count-mono, count-cong}
-use Rattle.delivery.proofs.OneRoundLaws.{some-value, value-some}
+use Rattle.delivery.proofs.CountLaws.{find, count-some, count-cong}
+use Rattle.delivery.proofs.OneRoundLaws.{says-entry, some-value, value-some}
 use Rattle.delivery.proofs.AllRoundsLaws.{opening-reads, ballot-reads, ballot-sent, accepted-reads, reads-accepted, ballot-needs}
 use Rattle.delivery.proofs.AgreementLaws.{Won}
-use Rattle.delivery.proofs.GrowthLaws.{Grows, ballot-grows}
 use Rattle.vote.specs.Ballots.{someValue, sentOpening, openedValue, tally, borneBy, valueWith}
 
 -- what is found passes, and is one of those that were looked at
@@ -113,8 +112,13 @@ module _ (L : Limits) (n : ℕ) (h : Store) (r : ℕ) where
   -- where the opening with w is accepted, so is each ballot that bears w
   pub tally-opened : (w : ℕ) → acceptsOpening L n h r w ≡ true
       → countIn n (λ (s : ℕ). says (entryOf w) (λ (v : ℕ). bears L h r v s)) ≡ tally L n h r w
-  unfolding tally says
-  tally-opened w o = count-cong n _ _ (λ s l u. sym (ballot-sent L n h r s w (inr o)))
+  unfolding tally
+  tally-opened w o =
+      count-cong
+      n
+      _
+      _
+      (λ s l u. says-entry w (λ (v : ℕ). bears L h r v s) ∙ sym (ballot-sent L n h r s w (inr o)))
 
   -- a value that m or more accepted ballots bear, and one at least
   pub record Backed (m w : ℕ) : Type 0 where
@@ -179,7 +183,7 @@ module _ (L : Limits) (n : ℕ) (h : Store) (r : ℕ) where
         least = leb-true m (tally L n h r w) (and-right (neg (eqb w 0)) (leb m (tally L n h r w)) (x .passes));
       }
 
-  pub with-within : (m : ℕ) → valueWith L n h r m ≤ values
+  with-within : (m : ℕ) → valueWith L n h r m ≤ values
   unfolding valueWith wanted
   with-within m = go (ℕ-discrete (valueWith L n h r m) 0)
     where
@@ -221,13 +225,3 @@ module _ (L : Limits) (n : ℕ) (h : Store) (r : ℕ) where
 
   pub backed-won : (w : ℕ) → Backed (quorum n) w → Won L n h r w
   backed-won w b = tally-won w (b .value) (b .least)
-
--- a tally grows with what is delivered
-pub tally-grows : (L : Limits) (n : ℕ) (h h′ : Store) → Grows h h′ → (r w : ℕ) → tally L n h r w ≤ tally L n h′ r w
-unfolding tally
-tally-grows L n h h′ g r w =
-    count-mono
-    n
-    (λ (s : ℕ). acceptsBallot L n h r s w)
-    (λ (s : ℕ). acceptsBallot L n h′ r s w)
-    (λ s l u b. ballot-grows L n h h′ g r s w b)

@@ -21,7 +21,7 @@ use Rattle.delivery.proofs.OneRoundLaws.{some-value, value-some}
 use Rattle.delivery.proofs.AgreementLaws.{Won}
 use Rattle.delivery.proofs.GrowthLaws.{Grows, deliver-grows}
 use Rattle.vote.specs.Ballots.{tally}
-use Rattle.vote.specs.Boards.{freshPosition, freshBoard, isStarted, isDecided, withStatus, startingWith, propose, hears, deliverTo, suspecting, suspect, trust}
+use Rattle.vote.specs.Boards.{freshPosition, freshBoard, isStarted, isDecided, decisionOf, withStatus, startingWith, propose, hears, deliverTo, suspecting, suspect, trust}
 use Rattle.vote.specs.Announcements.{convinced, announce}
 use Rattle.vote.specs.declared.position.Stage.the-variants.{Open}
 use Rattle.vote.specs.declared.position.Position.{Position}
@@ -161,14 +161,13 @@ module _ (L : Limits) (n : ℕ) (b : Board) (r v : ℕ) where
       (and-in z q (value-some v (c .won .value)) (le-leb (quorum n) votes (c .won .quorum-bears))))
 
   abbrev pub adopted : Board
-  adopted =
-      record { position = b .position; delivered = b .delivered; status = Decided (record { round = record { 0 = r }; value = v }) }
+  adopted = record { position = b .position; delivered = b .delivered; status = Decided (decisionOf r v) }
 
   pub announce-decides : convinced L n b r v ≡ true → announce L n b r v ≡ adopted
   unfolding announce withStatus
   announce-decides t = if-true (convinced L n b r v) adopted b t
 
-  pub announce-refused : convinced L n b r v ≡ false → announce L n b r v ≡ b
+  announce-refused : convinced L n b r v ≡ false → announce L n b r v ≡ b
   unfolding announce withStatus
   announce-refused t = if-false (convinced L n b r v) adopted b t
 

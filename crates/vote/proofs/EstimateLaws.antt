@@ -36,7 +36,7 @@ use Rattle.vote.proofs.BallotLaws.{Backed, opened-within, backed-opened
 use Rattle.vote.proofs.RuleLaws.{MayCount, Next, kept, taken}
 use Rattle.vote.proofs.TurnLaws.{turned, Course, not-taken, passed, opened, balloted, decided, advanced, expired, turn-course}
 use Rattle.vote.proofs.BoardLaws.{propose-cases, hears-grows, deliver-hears, suspect-adds, trust-drops, announce-cases}
-use Rattle.vote.proofs.ProperLaws.{Proper, voting-round, called-proper}
+use Rattle.vote.proofs.ProperLaws.{Proper, fresh-proper, voting-round, called-proper}
 
 -- a round whose opening, as it was sent, is that of a value
 module _ (L : Limits) (n : ℕ) (p : Position) (h : Store) (l : sentOpening L n h (p .round .0) ≤ entryOf values) where
@@ -209,7 +209,7 @@ module _ (L : Limits) (n me : ℕ) (b : Board) (some : 1 ≤ n) (p : Proper L b)
       (λ x. subst⁻¹ (Admitted L n) (x .1) (stays (b .position .stage) (b .position .suspected) _ (λ s. x .0 .started)))
       (announce-cases L n b r v)
 
--- so does every list of calls that fit, from a fresh board on
+-- so does every list of calls that fit
 pub data EachFits : List Call → Type 0 where
   none-left : EachFits []
   fits-first : (c : Call) (cs : List Call) → Fits c → EachFits cs → EachFits (c ∷ cs)
@@ -230,3 +230,8 @@ after-admitted L n me some rounds b p a (c ∷ cs) (fits-first _ _ f fs) =
     (called-admitted L n me b some p a c f)
     cs
     fs
+
+-- so, after any calls to a fresh board that fit, its estimate is allowed in its round by what it has delivered
+pub fresh-allowed : (L : Limits) (n me : ℕ) → 1 ≤ n → 1 ≤ L .rounds → (cs : List Call) → EachFits cs
+    → Admitted L n (after L n me (freshBoard L) cs)
+fresh-allowed L n me some rounds = after-admitted L n me some rounds (freshBoard L) (fresh-proper L) (fresh-admitted L n)

@@ -12,13 +12,13 @@ use Rattle.delivery.specs.Acceptance.{says, bears, opens, counts, countsSome, d
 use Rattle.vote.specs.Boards.{freshPosition, freshBoard, isStarted, isDecided, withStatus, startingWith, propose, hears, deliverTo, suspect}
 use Rattle.vote.specs.Ballots.{someValue, openedValue, tally, borneBy, valueWith}
 use Rattle.vote.specs.Rule.{openMove, mayVote, voteMove, mayCount, nextEstimate, onward, countMove, moveAt, rule}
-use Rattle.vote.specs.Turns.{numberOf, answerTo, atStage, positionAfter, statusAfter, statement, saidIn, hearsOwn, turnIn, turn}
+use Rattle.vote.specs.Turns.{turnNumber, answerTo, atStage, positionAfter, statusAfter, saidIn, hearsOwn, turnIn, turn}
 use Rattle.vote.specs.Announcements.{convinced, announce}
 use Rattle.vote.specs.Calls.{called, after}
 use Rattle.vote.specs.Examples.{Examples}
 
 pub examples : Examples
-unfolding if_then_else_ isWithin nth setNth valueOf _and_ _or_ neg plus countIn everyIn countOf everyOf someOf nextRound coordinator phaseOf identifierOf inSet setOf withBoard placeOf heardIn nothingDelivered deliver says bears opens counts countsSome divided allowedAfter allowed acceptsOpening acceptsBallot acceptsSome freshPosition freshBoard isStarted isDecided withStatus startingWith propose hears deliverTo suspect someValue openedValue tally borneBy valueWith openMove mayVote voteMove mayCount nextEstimate onward countMove moveAt rule numberOf answerTo atStage positionAfter statusAfter statement saidIn hearsOwn turnIn turn convinced announce called after
+unfolding if_then_else_ isWithin nth setNth valueOf _and_ _or_ neg plus countIn everyIn countOf everyOf someOf nextRound coordinator phaseOf identifierOf inSet setOf withBoard placeOf heardIn nothingDelivered deliver says bears opens counts countsSome divided allowedAfter allowed acceptsOpening acceptsBallot acceptsSome freshPosition freshBoard isStarted isDecided withStatus startingWith propose hears deliverTo suspect someValue openedValue tally borneBy valueWith openMove mayVote voteMove mayCount nextEstimate onward countMove moveAt rule turnNumber answerTo atStage positionAfter statusAfter saidIn hearsOwn turnIn turn convinced announce called after
 examples =
     record {
       letter-l = refl;

@@ -10,7 +10,7 @@ use Rattle.delivery.specs.Delivered.{Store, heard}
 use Rattle.delivery.specs.Sets.{withBoard, withoutBoard}
 use Rattle.delivery.proofs.AgreementLaws.{Won}
 use Rattle.delivery.proofs.GrowthLaws.{Grows, grows-same, grows-on, won-grows}
-use Rattle.vote.specs.Boards.{freshBoard, isStarted, isDecided, isEnded, propose, deliverTo, suspect, trust, suspecting}
+use Rattle.vote.specs.Boards.{freshBoard, isStarted, isDecided, isEnded, decisionOf, propose, deliverTo, suspect, trust, suspecting}
 use Rattle.vote.specs.Turns.{turn}
 use Rattle.vote.specs.Announcements.{announce}
 use Rattle.vote.specs.Calls.{Call, proposal, own-turn, delivery, suspicion, trusting, announcement, called, after, signedIn, put, statements}
@@ -109,7 +109,7 @@ module _ (L : Limits) (n me : ℕ) (b : Board) where
   course-won t (opened v g c e) d i = absurd (voting-decided d (sym (ap (λ (u : Turn). u .board .status) e) ∙ i))
   course-won t (balloted v g y e) d i = absurd (voting-decided d (sym (ap (λ (u : Turn). u .board .status) e) ∙ i))
   course-won t (decided w v g m o e) d i =
-      let k = decided-one (record { round = b .position .round; value = w }) d (sym (ap (λ (u : Turn). u .board .status) e) ∙ i) in
+      let k = decided-one (decisionOf (b .position .round .0) w) d (sym (ap (λ (u : Turn). u .board .status) e) ∙ i) in
       inr (subst (λ (x : Decision). Won L n (store L b) (x .round .0) (x .value)) k o)
   course-won t (advanced w v g m z l x e) d i = absurd (voting-decided d (sym (ap (λ (u : Turn). u .board .status) e) ∙ i))
   course-won t (expired w v g m z l x e) d i = absurd (spent-decided d (sym (ap (λ (u : Turn). u .board .status) e) ∙ i))
@@ -130,7 +130,7 @@ module _ (L : Limits) (n me : ℕ) (b : Board) where
       ⊎-elim
       (λ e. inl (sym (ap (λ (x : Board). x .status) e) ∙ i))
       (λ x.
-      let k = decided-one (record { round = record { 0 = r }; value = v }) d (sym (ap (λ (y : Board). y .status) (x .1)) ∙ i) in
+      let k = decided-one (decisionOf r v) d (sym (ap (λ (y : Board). y .status) (x .1)) ∙ i) in
       inr (subst (λ (y : Decision). Won L n (store L b) (y .round .0) (y .value)) k (x .0 .won)))
       (announce-cases L n b r v)
 
@@ -239,7 +239,7 @@ module _ (L : Limits) (n me : ℕ) (b : Board) (p : Proper L b) where
       let k = signed-next c s e in
       and-then (due L b) s ss (omega (arith, k .0)) (rising-from (suc (s .id .0)) (due L (called L n me b c)) ss (k .1) r)
 
-pub statements-rise : (L : Limits) (n me : ℕ) → 1 ≤ L .rounds → (b : Board) → Proper L b → (cs : List Call)
+statements-rise : (L : Limits) (n me : ℕ) → 1 ≤ L .rounds → (b : Board) → Proper L b → (cs : List Call)
     → Rising (due L b) (statements L n me b cs)
 unfolding statements
 statements-rise L n me some b p [] = no-more (due L b)

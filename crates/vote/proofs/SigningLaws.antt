@@ -12,7 +12,7 @@ use Rattle.delivery.specs.declared.round.Phase.the-variants.{Opening, Ballot}
 use Rattle.delivery.proofs.RoundLaws.{opening-ballot, ballot-opening}
 use Rattle.vote.specs.Ballots.{openedValue}
 use Rattle.vote.specs.Boards.{isStarted, hears}
-use Rattle.vote.specs.Turns.{turn}
+use Rattle.vote.specs.Turns.{statementOf, turn}
 use Rattle.vote.specs.declared.position.Position.{Position}
 use Rattle.vote.specs.declared.position.Stage.{Stage}
 use Rattle.vote.specs.declared.position.Stage.the-variants.{Open, Vote, Count}
@@ -22,16 +22,16 @@ use Rattle.vote.specs.declared.board.Board.{Board}
 use Rattle.vote.specs.declared.board.Status.{Status}
 use Rattle.vote.specs.declared.board.Status.the-variants.{Idle, Voting, Spent, Decided}
 use Rattle.vote.specs.declared.turn.Turn.{Turn}
-use Rattle.vote.proofs.TurnLaws.{nothing-one, one-statement, told, done, Course, not-taken, passed, opened, balloted, decided, advanced, expired, turn-course}
+use Rattle.vote.proofs.TurnLaws.{nothing-one, one-statement, done, Course, not-taken, passed, opened, balloted, decided, advanced, expired, turn-course}
 
 -- What board `me` signs in its turn: the opening of its round with its estimate, as its coordinator, at stage A; the
 -- round's ballot at stage B.
 module _ (L : Limits) (n me : ℕ) (b : Board) where
   pub data Signs (s : Statement) : Type 0 where
     signs-opening : b .status ≡ Voting → b .position .stage ≡ Open → me ≡ coordinator n (b .position .round .0)
-        → told L me (b .position .round) Opening (b .position .estimate) ≡ s → Signs s
+        → statementOf L me Opening (b .position .round .0) (b .position .estimate) ≡ s → Signs s
     signs-ballot : b .status ≡ Voting → b .position .stage ≡ Vote
-        → told L me (b .position .round) Ballot (openedValue L n (heard L (b .delivered)) (b .position .round .0)) ≡ s → Signs s
+        → statementOf L me Ballot (b .position .round .0) (openedValue L n (heard L (b .delivered)) (b .position .round .0)) ≡ s → Signs s
 
 -- the lowest identifier under which a board may still sign: at A its round's opening, at B its ballot, at C whatever
 -- follows that

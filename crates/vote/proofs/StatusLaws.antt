@@ -2,7 +2,7 @@
 use Prim.Native.Nat.{ℕ}
 use mathlib.Core.Path.{_≡_, refl, sym, ap}
 use mathlib.Core.Bool.{true, false, true≢false}
-use Rattle.vote.specs.Boards.{isStarted, isDecided, isEnded}
+use Rattle.vote.specs.Boards.{isStarted, isDecided, isEnded, decisionOf}
 use Rattle.vote.specs.Turns.{statusAfter}
 use Rattle.vote.specs.declared.rule.Move.{Move}
 use Rattle.vote.specs.declared.rule.Move.the-variants.{Waits, Passes, Opens, Ballots, Decides, Advances, Expires}
@@ -82,10 +82,6 @@ decision d (Decided c) = c
 pub decided-one : (d c : Decision) → Decided d ≡ Decided c → d ≡ c
 unfolding decision
 decided-one d c e = ap (decision d) e
-
--- the decision of v in r
-abbrev pub decisionOf : ℕ → ℕ → Decision
-decisionOf r v = record { round = record { 0 = r }; value = v }
 
 -- the move that makes a board decide
 pub decides-status : (r v : ℕ) → statusAfter r (Decides v) ≡ Decided (decisionOf r v)

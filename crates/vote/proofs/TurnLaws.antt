@@ -5,19 +5,18 @@ use mathlib.Core.Bool.{Bool, true, false, true≢false}
 use mathlib.Core.Logic.{_⊎_, inl, inr}
 use native.Mathlib.Omega.{arith}
 use Rattle.delivery.specs.Limits.{Limits}
-use Rattle.delivery.specs.Rounds.{coordinator, nextRound, identifierOf}
+use Rattle.delivery.specs.Rounds.{coordinator, nextRound}
 use Rattle.delivery.specs.Delivered.{Store, heard}
 use Rattle.delivery.specs.Acceptance.{acceptsOpening}
 use Rattle.delivery.specs.declared.delivered.Delivered.{Delivered}
 use Rattle.delivery.specs.declared.round.Round.{Round}
-use Rattle.delivery.specs.declared.round.Phase.{Phase}
 use Rattle.delivery.specs.declared.round.Phase.the-variants.{Opening, Ballot}
 use Rattle.delivery.proofs.RoundLaws.{next-at}
 use Rattle.delivery.proofs.AgreementLaws.{Won}
 use Rattle.vote.specs.Ballots.{openedValue}
-use Rattle.vote.specs.Boards.{isEnded, hears}
+use Rattle.vote.specs.Boards.{isEnded, decisionOf, hears}
 use Rattle.vote.specs.Rule.{mayVote, chosen, rule}
-use Rattle.vote.specs.Turns.{numberOf, atStage, positionAfter, statusAfter, statement, saidIn, hearsOwn, answerTo, refuse, take, turnIn, turn}
+use Rattle.vote.specs.Turns.{turnNumber, atStage, positionAfter, statusAfter, statementOf, saidIn, hearsOwn, answerTo, refuse, take, turnIn, turn}
 use Rattle.vote.specs.declared.position.Stage.{Stage}
 use Rattle.vote.specs.declared.position.Stage.the-variants.{Open, Vote, Count}
 use Rattle.vote.specs.declared.rule.Move.{Move}
@@ -56,10 +55,6 @@ abbrev pub placed : Board → Round → ℕ → Stage → Delivered → Status �
 placed b r e s d t =
     record { position = record { round = r; estimate = e; stage = s; suspected = b .position .suspected }; delivered = d; status = t }
 
--- what board `me` says in a round
-abbrev pub told : Limits → ℕ → Round → Phase → ℕ → Statement
-told L me r p v = record { speaker = me; id = record { 0 = identifierOf L p (r .0) }; value = v }
-
 -- a turn that is taken
 abbrev pub done : Board → Turn
 done b = record { board = b; answer = Done; signed = Nothing }
@@ -73,7 +68,7 @@ turned P t u e = subst⁻¹ (λ (x : Turn). P (x .board)) e
 
 -- what each move comes to
 module _ (L : Limits) (me : ℕ) (b : Board) where
-  pub take-waits : b .status ≡ Voting → take L me b Waits ≡ refuse b Waiting
+  take-waits : b .status ≡ Voting → take L me b Waits ≡ refuse b Waiting
   unfolding positionAfter statusAfter saidIn hearsOwn answerTo
   take-waits e = ap (λ (t : Status). refuse (record { position = b .position; delivered = b .delivered; status = t }) Waiting) (sym e)
 
@@ -81,19 +76,19 @@ module _ (L : Limits) (me : ℕ) (b : Board) where
   unfolding positionAfter atStage statusAfter saidIn hearsOwn answerTo
   take-passes = refl
 
-  pub take-opens : (v : ℕ) → let s = told L me (b .position .round) Opening v in
+  pub take-opens : (v : ℕ) → let s = statementOf L me Opening (b .position .round .0) v in
       take L me b (Opens v) ≡ spoken (placed b (b .position .round) (b .position .estimate) Vote (hears L (b .delivered) s) Voting) s
-  unfolding positionAfter atStage statusAfter statement saidIn hearsOwn answerTo
+  unfolding positionAfter atStage statusAfter saidIn hearsOwn answerTo
   take-opens v = refl
 
-  pub take-ballots : (v : ℕ) → let s = told L me (b .position .round) Ballot v in
+  pub take-ballots : (v : ℕ) → let s = statementOf L me Ballot (b .position .round .0) v in
       take L me b (Ballots v) ≡ spoken (placed b (b .position .round) (b .position .estimate) Count (hears L (b .delivered) s) Voting) s
-  unfolding positionAfter atStage statusAfter statement saidIn hearsOwn answerTo
+  unfolding positionAfter atStage statusAfter saidIn hearsOwn answerTo
   take-ballots v = refl
 
   pub take-decides : (v : ℕ)
       → take L me b (Decides v)
-      ≡ done (record { position = b .position; delivered = b .delivered; status = Decided (record { round = b .position .round; value = v }) })
+      ≡ done (record { position = b .position; delivered = b .delivered; status = Decided (decisionOf (b .position .round .0) v) })
   unfolding positionAfter statusAfter saidIn hearsOwn answerTo
   take-decides v = refl
 
@@ -127,15 +122,19 @@ unfolding answered
 waiting-not e = true≢false (sym (ap answered e))
 
 -- the numbers of the answers: 0 is that of `Done` alone, and the others are among those of the rows for events
-pub number-within : (a : Answer) → (numberOf a ≡ 0) ⊎ ((10 ≤ numberOf a) × (numberOf a ≤ 22))
-unfolding numberOf
+pub number-within : (a : Answer) → (turnNumber a ≡ 0) ⊎ ((10 ≤ turnNumber a) × (turnNumber a ≤ 22))
+unfolding turnNumber
 number-within Done = inl refl
 number-within NotStarted = inr (omega arith, omega arith)
 number-within Ended = inr (omega arith, omega arith)
 number-within Waiting = inr (omega arith, omega arith)
 
-pub number-some : (a : Answer) → numberOf a ≡ 0 → a ≡ Done
-unfolding numberOf
+pub number-done : turnNumber Done ≡ 0
+unfolding turnNumber
+number-done = refl
+
+pub number-some : (a : Answer) → turnNumber a ≡ 0 → a ≡ Done
+unfolding turnNumber
 number-some Done e = refl
 number-some NotStarted e = absurd (omega (arith, e))
 number-some Ended e = absurd (omega (arith, e))
@@ -177,16 +176,16 @@ module _ (L : Limits) (n me : ℕ) (b : Board) where
     opened : b .status ≡ Voting → b .position .stage ≡ Open → me ≡ coordinator n (round .0)
         → t
         ≡ spoken
-        (placed b round (b .position .estimate) Vote (hears L (b .delivered) (told L me round Opening (b .position .estimate))) Voting)
-        (told L me round Opening (b .position .estimate)) → Course t
+        (placed b round (b .position .estimate) Vote (hears L (b .delivered) (statementOf L me Opening (round .0) (b .position .estimate))) Voting)
+        (statementOf L me Opening (round .0) (b .position .estimate)) → Course t
     balloted : b .status ≡ Voting → b .position .stage ≡ Vote → mayVote L n (b .position) store ≡ true
         → t
         ≡ spoken
-        (placed b round (b .position .estimate) Count (hears L (b .delivered) (told L me round Ballot (openedValue L n store (round .0)))) Voting)
-        (told L me round Ballot (openedValue L n store (round .0))) → Course t
+        (placed b round (b .position .estimate) Count (hears L (b .delivered) (statementOf L me Ballot (round .0) (openedValue L n store (round .0)))) Voting)
+        (statementOf L me Ballot (round .0) (openedValue L n store (round .0))) → Course t
     decided : (v : ℕ) → b .status ≡ Voting → b .position .stage ≡ Count → MayCount L n (b .position) store
         → Won L n store (round .0) v
-        → t ≡ done (record { position = b .position; delivered = b .delivered; status = Decided (record { round = round; value = v }) })
+        → t ≡ done (record { position = b .position; delivered = b .delivered; status = Decided (decisionOf (round .0) v) })
         → Course t
     advanced : (v : ℕ) → b .status ≡ Voting → b .position .stage ≡ Count → MayCount L n (b .position) store
         → chosen L n (b .position) store ≡ 0 → round .0 < L .rounds → Next L n (b .position) store v

@@ -7,7 +7,7 @@ use Rattle.delivery.specs.Tests.{_and_, neg}
 use Rattle.delivery.specs.Limits.{Limits}
 use Rattle.delivery.specs.Bus.{quorum}
 use Rattle.delivery.specs.Delivered.{heard}
-use Rattle.vote.specs.Boards.{isStarted, isDecided, withStatus}
+use Rattle.vote.specs.Boards.{isStarted, isDecided, decisionOf, withStatus}
 use Rattle.vote.specs.Ballots.{tally}
 use Rattle.vote.specs.declared.board.Board.{Board}
 use Rattle.vote.specs.declared.board.Status.the-variants.{Decided}
@@ -25,5 +25,5 @@ convinced L n b r v =
 unfoldable pub announce : Limits → ℕ → Board → ℕ → ℕ → Board
 announce L n b r v =
     if convinced L n b r v
-    then withStatus b (Decided (record { round = record { 0 = r }; value = v }))
+    then withStatus b (Decided (decisionOf r v))
     else b

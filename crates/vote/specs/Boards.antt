@@ -13,6 +13,7 @@ use Rattle.vote.specs.declared.position.Position.{Position}
 use Rattle.vote.specs.declared.position.Stage.the-variants.{Open}
 use Rattle.vote.specs.declared.statement.Statement.{Statement}
 use Rattle.vote.specs.declared.board.Board.{Board}
+use Rattle.vote.specs.declared.board.Decision.{Decision}
 use Rattle.vote.specs.declared.board.Status.{Status}
 use Rattle.vote.specs.declared.board.Status.the-variants.{Idle, Voting, Spent, Decided}
 
@@ -45,7 +46,10 @@ isEnded Voting = false
 isEnded Spent = true
 isEnded (Decided d) = true
 
--- it decided value v in round r
+-- the decision of value v in round r, and whether that is what it decided
+abbrev pub decisionOf : ℕ → ℕ → Decision
+decisionOf r v = record { round = record { 0 = r }; value = v }
+
 unfoldable pub hasDecided : Status → ℕ → ℕ → Bool
 hasDecided Idle r v = false
 hasDecided Voting r v = false
@@ -74,21 +78,14 @@ hears L d s = deliver L d (s .speaker) (s .id .0) (s .value)
 unfoldable pub deliverTo : Limits → Board → Statement → Board
 deliverTo L b s = record { position = b .position; delivered = hears L (b .delivered) s; status = b .status }
 
--- board k is suspected from now on, or no longer; nothing else changes
-abbrev pub suspecting : Board → ℕ → Board
-suspecting b m =
-    record {
-      position =
-          record {
-            round = b .position .round;
-            estimate = b .position .estimate;
-            stage = b .position .stage;
-            suspected = m;
-          };
-      delivered = b .delivered;
-      status = b .status;
-    }
+-- the boards of the set m are suspected, and no others; nothing else changes
+abbrev pub withSuspected : Position → ℕ → Position
+withSuspected p m = record { round = p .round; estimate = p .estimate; stage = p .stage; suspected = m }
 
+abbrev pub suspecting : Board → ℕ → Board
+suspecting b m = record { position = withSuspected (b .position) m; delivered = b .delivered; status = b .status }
+
+-- board k is suspected from now on, or no longer
 unfoldable pub suspect : Board → ℕ → Board
 suspect b k = suspecting b (withBoard (b .position .suspected) k)
 

@@ -45,7 +45,7 @@ module _ (L : Limits) (n : ℕ) (p : Position) (h : Store) where
       and everyIn n (λ (s : ℕ). acceptsSome L n h r s or inSet (p .suspected) s)
 
   -- The value that q or more of the ballots bear, which the board decides; and the next estimate, which is the value that
-  -- e or more bear. Where there is none of these the estimate stays.
+  -- e or more bear. If no value has so many, the estimate stays.
   abbrev pub chosen : ℕ
   chosen = valueWith L n h r (quorum n)
 

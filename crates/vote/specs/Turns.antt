@@ -7,13 +7,14 @@ use Rattle.delivery.specs.Delivered.{heard}
 use Rattle.delivery.specs.declared.delivered.Delivered.{Delivered}
 use Rattle.delivery.specs.declared.round.Phase.{Phase}
 use Rattle.delivery.specs.declared.round.Phase.the-variants.{Opening, Ballot}
-use Rattle.vote.specs.Boards.{hears}
+use Rattle.vote.specs.Boards.{decisionOf, hears}
 use Rattle.vote.specs.Rule.{rule}
 use Rattle.vote.specs.declared.position.Position.{Position}
 use Rattle.vote.specs.declared.position.Stage.{Stage}
 use Rattle.vote.specs.declared.position.Stage.the-variants.{Open, Vote, Count}
 use Rattle.vote.specs.declared.rule.Move.{Move}
 use Rattle.vote.specs.declared.rule.Move.the-variants.{Waits, Passes, Opens, Ballots, Decides, Advances, Expires}
+use Rattle.vote.specs.declared.statement.Statement.{Statement}
 use Rattle.vote.specs.declared.statement.Said.{Said}
 use Rattle.vote.specs.declared.statement.Said.the-variants.{Nothing, One}
 use Rattle.vote.specs.declared.board.Board.{Board}
@@ -24,11 +25,11 @@ use Rattle.vote.specs.declared.turn.Answer.the-variants.{Done, NotStarte
 use Rattle.vote.specs.declared.turn.Turn.{Turn}
 
 -- the numbers of the answers in document 01's table
-unfoldable pub numberOf : Answer → ℕ
-numberOf Done = 0
-numberOf NotStarted = 15
-numberOf Ended = 16
-numberOf Waiting = 22
+unfoldable pub turnNumber : Answer → ℕ
+turnNumber Done = 0
+turnNumber NotStarted = 15
+turnNumber Ended = 16
+turnNumber Waiting = 22
 
 -- a turn in which the board waits is answered so, and every other is done
 unfoldable pub answerTo : Move → Answer
@@ -61,19 +62,20 @@ statusAfter r Waits = Voting
 statusAfter r Passes = Voting
 statusAfter r (Opens v) = Voting
 statusAfter r (Ballots v) = Voting
-statusAfter r (Decides v) = Decided (record { round = record { 0 = r }; value = v })
+statusAfter r (Decides v) = Decided (decisionOf r v)
 statusAfter r (Advances v) = Voting
 statusAfter r (Expires v) = Spent
 
--- what board `me` signs: a statement of round r, or nothing
-unfoldable pub statement : Limits → ℕ → ℕ → Phase → ℕ → Said
-statement L me r p v = One (record { speaker = me; id = record { 0 = identifierOf L p r }; value = v })
+-- the opening or the ballot of round r that board s gives with value v
+abbrev pub statementOf : Limits → ℕ → Phase → ℕ → ℕ → Statement
+statementOf L s p r v = record { speaker = s; id = record { 0 = identifierOf L p r }; value = v }
 
+-- what board `me` signs in round r: one of these, or nothing
 unfoldable pub saidIn : Limits → ℕ → ℕ → Move → Said
 saidIn L me r Waits = Nothing
 saidIn L me r Passes = Nothing
-saidIn L me r (Opens v) = statement L me r Opening v
-saidIn L me r (Ballots v) = statement L me r Ballot v
+saidIn L me r (Opens v) = One (statementOf L me Opening r v)
+saidIn L me r (Ballots v) = One (statementOf L me Ballot r v)
 saidIn L me r (Decides v) = Nothing
 saidIn L me r (Advances v) = Nothing
 saidIn L me r (Expires v) = Nothing

@@ -2,10 +2,9 @@ ghost use mathlib.Core.Path.{_≡_};
 ghost use Rattle.delivery.specs.Limits.{limits};
 ghost use Rattle.delivery.specs.Delivered.{heard};
 ghost use Rattle.vote.specs.Ballots.{tally};
-ghost use Rattle.vote.specs.Boards.{freshPosition, startingWith, freshBoard, isStarted, isDecided, isEnded, hasDecided, propose, deliverTo, suspect, trust};
+ghost use Rattle.vote.specs.Boards.{freshBoard, isStarted, isDecided, isEnded, hasDecided, propose, deliverTo, suspect, trust};
 ghost use Rattle.vote.specs.Announcements.{announce};
 use crate::position::Position;
-use crate::position::Stage;
 use crate::statement::Statement;
 use delivery::Delivered;
 use delivery::Round;
@@ -19,7 +18,8 @@ pub struct Decision {
     pub value: u16,
 }
 
-// How far a board is with its vote.
+// How far a board is: not started; voting; spent, document 01's word for one that the last round left undecided; or
+// decided.
 pub enum Status {
     Idle,
     Voting,
@@ -32,31 +32,6 @@ pub struct Board {
     pub position: Position,
     pub delivered: Delivered,
     pub status: Status,
-}
-
-impl Position {
-    fn fresh() -> Position
-        ensures { λ r. ⌜ r ≡ freshPosition ⌝ }
-    {
-        Position {
-            round: Round(0),
-            estimate: 0,
-            stage: Stage::Open,
-            suspected: 0,
-        }
-    }
-
-    // At the start of round 1 with this estimate; the suspicions stay.
-    fn starting_with(self, estimate: u16) -> Position
-        ensures { λ r. ⌜ r ≡ startingWith self estimate ⌝ }
-    {
-        Position {
-            round: Round(1),
-            estimate,
-            stage: Stage::Open,
-            suspected: self.suspected,
-        }
-    }
 }
 
 impl Board {

@@ -13,7 +13,8 @@ use delivery::set;
 use delivery::store;
 use signer::Log;
 
-// What a board does in a turn.
+// What a board does in a turn: it waits; passes, not being coordinator; opens with its estimate; gives a ballot with a
+// value; decides a value; goes on with an estimate; or is spent with one.
 pub enum Move {
     Waits,
     Passes,

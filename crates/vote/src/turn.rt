@@ -1,7 +1,7 @@
 ghost use mathlib.Core.Path.{_≡_};
 ghost use Rattle.delivery.specs.Limits.{limits};
 ghost use Rattle.vote.specs.Boards.{withStatus};
-ghost use Rattle.vote.specs.Turns.{numberOf, atStage, positionAfter, statusAfter, saidIn, hearsOwn, answerTo, refuse, turn};
+ghost use Rattle.vote.specs.Turns.{turnNumber, positionAfter, statusAfter, saidIn, hearsOwn, answerTo, refuse, turn};
 use crate::board::Board;
 use crate::board::Decision;
 use crate::board::Status;
@@ -32,7 +32,7 @@ pub struct Turn {
 impl Answer {
     // The answer's number in document 01's table.
     pub fn number(self) -> u8
-        ensures { λ r. ⌜ r ≡ numberOf self ⌝ }
+        ensures { λ r. ⌜ r ≡ turnNumber self ⌝ }
     {
         match self {
             Answer::Done => 0,
@@ -98,18 +98,6 @@ impl Said {
 }
 
 impl Position {
-    fn at_stage(self, stage: Stage) -> Position
-        ensures { λ r. ⌜ r ≡ atStage self stage ⌝ }
-    {
-        let round = self.round;
-        Position {
-            round,
-            estimate: self.estimate,
-            stage,
-            suspected: self.suspected,
-        }
-    }
-
     // Where the board stands afterwards.
     fn after(mut self, step: Move) -> Position
         ensures { λ r. ⌜ r ≡ positionAfter limits step self ⌝ }

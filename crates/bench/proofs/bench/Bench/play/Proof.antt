@@ -32,8 +32,8 @@ use Rattle.bench.proofs.bench.Bench.play.Tie as tie
 fresh-requires : tie.Need-fresh-requires
 fresh-requires c κs = search needs
 
-how-it-ends-requires : tie.Need-how-it-ends-requires
-how-it-ends-requires c κs = search needs
+ending-of-requires : tie.Need-ending-of-requires
+ending-of-requires c κs = search needs
 
 enum-told : tie.Need-enum-told
 enum-told c = search needs
@@ -79,7 +79,7 @@ run-requires c κs =
     let h = c .before .before .before in
     let f = h .before .before in
     let a = f .before .before .before .args in
-    let room : length (a .events .now) / eventBytes ≤ length (a .answers .now) = played-room (a .events .now) (length (a .answers .now)) (sym (h .how-it-ends .ensures) ∙ c .before .enum-told .given .1) in
+    let room : length (a .events .now) / eventBytes ≤ length (a .answers .now) = played-room (a .events .now) (length (a .answers .now)) (sym (h .ending-of .ensures) ∙ c .before .enum-told .given .1) in
     (omega arith, room, rw (f .fresh .ensures) (limits-ground (a .n) (a .marks) .boards-enough))
 
 same-length : tie.Need-same-length
@@ -95,7 +95,7 @@ returns c =
     let a = f .before .before .before .args in
     let bs = a .events .now in
     let fresh : f .fresh .result .bench ≡ freshBench limits (a .n) (a .marks) = ap (λ (x : Fresh). x .bench) (f .fresh .ensures) in
-    let events : eventsPlayed bs (length (a .answers .now)) ≡ eventsIn (length bs / eventBytes) bs = ap (λ (x : Ending). playedBy x bs) (sym (h .how-it-ends .ensures) ∙ t .enum-told .given .1) in
+    let events : eventsPlayed bs (length (a .answers .now)) ≡ eventsIn (length bs / eventBytes) bs = ap (λ (x : Ending). playedBy x bs) (sym (h .ending-of .ensures) ∙ t .enum-told .given .1) in
     meets
     (a .n)
     (a .marks)
@@ -109,7 +109,7 @@ returns c =
     ∙ ap (λ (b : Bench). after limits b (eventsIn (length bs / eventBytes) bs)) fresh
     ∙ ap (λ (es : List Event). after limits (freshBench limits (a .n) (a .marks)) es) (sym events))
     (ap (λ (x : Fresh). x .answer) (f .fresh .ensures))
-    (h .how-it-ends .ensures)
+    (h .ending-of .ensures)
     (r .run .ensures .1
     ∙ ap (λ (b : Bench). written (answersTo limits b (eventsIn (length bs / eventBytes) bs)) (a .answers .now)) fresh
     ∙ ap (λ (es : List Event). written (answersTo limits (freshBench limits (a .n) (a .marks)) es) (a .answers .now)) (sym events))
@@ -121,7 +121,7 @@ returns-2 c =
     let f = h .before .before in
     let a = f .before .before .before .args in
     let bs = a .events .now in
-    let events : eventsPlayed bs (length (a .answers .now)) ≡ [] = ap (λ (x : Ending). playedBy x bs) (sym (h .how-it-ends .ensures)) ∙ rest (h .how-it-ends .result) bs (c .match .keys2) in
+    let events : eventsPlayed bs (length (a .answers .now)) ≡ [] = ap (λ (x : Ending). playedBy x bs) (sym (h .ending-of .ensures)) ∙ rest (h .ending-of .result) bs (c .match .keys2) in
     meets
     (a .n)
     (a .marks)
@@ -134,7 +134,7 @@ returns-2 c =
     (ap (λ (x : Fresh). x .bench) (f .fresh .ensures)
     ∙ ap (λ (es : List Event). after limits (freshBench limits (a .n) (a .marks)) es) (sym events))
     (ap (λ (x : Fresh). x .answer) (f .fresh .ensures))
-    (h .how-it-ends .ensures)
+    (h .ending-of .ensures)
     (ap (λ (es : List Event). written (answersTo limits (freshBench limits (a .n) (a .marks)) es) (a .answers .now)) (sym events))
 
 pub play-spec : {M : Type 1} → statement M
@@ -142,7 +142,7 @@ play-spec =
     tie.close
     (tie.spec
     fresh-requires
-    how-it-ends-requires
+    ending-of-requires
     enum-told
     run-requires
     same-length

@@ -37,8 +37,8 @@ returns c b k o =
     let w = c .before in
     rw (c .silent .ensures) (refuses-so limits b _ _ _ _ MustWait (last-waits _ (tested (w .before) b k o ∙ w .if1 .taken)) wait-refused)
 
-signing-requires : tie.Need-signing-requires
-signing-requires c κs = search needs
+signer-after-requires : tie.Need-signer-after-requires
+signer-after-requires c κs = search needs
 
 returns-2 : tie.Need-returns-2
 returns-2 c b k o =
@@ -54,9 +54,9 @@ returns-2 c b k o =
     _
     (tested (w .before) b k o ∙ w .if1 .left)
     refl
-    (rw (c .signing .ensures, t .turn .ensures) (put-turn limits b _ _ _ _ k o))
+    (rw (c .signer-after .ensures, t .turn .ensures) (put-turn limits b _ _ _ _ k o))
 
 pub turn-spec : {M : Type 1} → statement M
 turn-spec =
     tie.close
-    (tie.spec turn-requires must-wait-requires silent-requires returns signing-requires returns-2)
+    (tie.spec turn-requires must-wait-requires silent-requires returns signer-after-requires returns-2)

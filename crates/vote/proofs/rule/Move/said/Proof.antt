@@ -6,7 +6,7 @@ use types.Run.{OneOf, miss}
 use mathlib.Core.Path.{_≡_, refl}
 use mathlib.Core.List.{[], _∷_}
 use Rattle.delivery.specs.Limits.{limits}
-use Rattle.vote.specs.Turns.{statement as statementOf, saidIn}
+use Rattle.vote.specs.Turns.{saidIn}
 use Rattle.vote.specs.declared.rule.Move.{Move}
 use Rattle.vote.specs.declared.rule.Move.the-variants.{Waits, Passes, Opens, Ballots, Decides, Advances, Expires}
 use Rattle.vote.specs.declared.statement.Said.the-variants.{Nothing}
@@ -38,11 +38,11 @@ identifier-requires-2 : tie.Need-identifier-requires-2
 identifier-requires-2 c κs = search needs
 
 returns : tie.Need-returns
-unfolding statementOf saidIn
+unfolding saidIn
 returns c = rw (c .before .before .self .given .1, c .identifier .ensures)
 
 returns-2 : tie.Need-returns-2
-unfolding statementOf saidIn
+unfolding saidIn
 returns-2 c = rw (c .before .before .self2 .given .1, c .identifier2 .ensures)
 
 returns-3 : tie.Need-returns-3

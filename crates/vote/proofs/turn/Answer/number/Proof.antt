@@ -1,6 +1,6 @@
 -- `Answer::number` meets its contract. Assumes nothing.
 use borrow.Author.Needs.{needs}
-use Rattle.vote.specs.Turns.{numberOf}
+use Rattle.vote.specs.Turns.{turnNumber}
 use Rattle.vote.proofs.turn.Answer.number.Statement.{statement}
 use Rattle.vote.proofs.turn.Answer.number.Tie as tie
 
@@ -17,19 +17,19 @@ enum-told-4 : tie.Need-enum-told-4
 enum-told-4 c = search needs
 
 returns : tie.Need-returns
-unfolding numberOf
+unfolding turnNumber
 returns c = rw (c .enum-told .given .1)
 
 returns-2 : tie.Need-returns-2
-unfolding numberOf
+unfolding turnNumber
 returns-2 c = rw (c .enum-told2 .given .1)
 
 returns-3 : tie.Need-returns-3
-unfolding numberOf
+unfolding turnNumber
 returns-3 c = rw (c .enum-told3 .given .1)
 
 returns-4 : tie.Need-returns-4
-unfolding numberOf
+unfolding turnNumber
 returns-4 c = rw (c .enum-told4 .given .1)
 
 pub number-spec : {M : Type 1} → statement M

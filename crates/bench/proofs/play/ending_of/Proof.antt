@@ -1,10 +1,10 @@
--- `how_it_ends` meets its contract: the tests are those of the definition. Assumes nothing.
+-- `ending_of` meets its contract: the tests are those of the definition. Assumes nothing.
 use borrow.Author.Tests.{eq-eqb, ne-eqb, le-leb, lt-leb}
 use mathlib.Core.Path.{sym, _∙_}
 use Rattle.signer.proofs.ChoiceLaws.{if-true, if-false}
 use Rattle.bench.specs.Runs.{endingOf}
-use Rattle.bench.proofs.play.how_it_ends.Statement.{statement}
-use Rattle.bench.proofs.play.how_it_ends.Tie as tie
+use Rattle.bench.proofs.play.ending_of.Statement.{statement}
+use Rattle.bench.proofs.play.ending_of.Tie as tie
 
 returns : tie.Need-returns
 unfolding endingOf
@@ -18,5 +18,5 @@ returns-3 : tie.Need-returns-3
 unfolding endingOf
 returns-3 c = sym (if-true _ _ _ (eq-eqb _ 0 (c .before .if1 .left)) ∙ if-true _ _ _ (le-leb _ _ (c .if2 .left)))
 
-pub how-it-ends-spec : {M : Type 1} → statement M
-how-it-ends-spec = tie.close (tie.spec returns returns-2 returns-3)
+pub ending-of-spec : {M : Type 1} → statement M
+ending-of-spec = tie.close (tie.spec returns returns-2 returns-3)
