@@ -103,14 +103,7 @@ impl<P: Player> Comparison<P> {
         rows: usize,
         coverage: &mut Coverage,
     ) -> Option<Difference> {
-        let opened = match open(file) {
-            Ok(opened) => opened,
-            Err(fault) => {
-                coverage.note_file(fault);
-                return None;
-            }
-        };
-        coverage.note_file(0);
+        let opened = coverage.open(file)?;
         let mut bench = opened.bench();
         let mut events = opened.events();
         let mut answer = 0;

@@ -1,7 +1,7 @@
 //! What a number of schedules has reached, and what it has missed.
 
 use crate::board::Status;
-use crate::file::standing;
+use crate::file::{open, standing, Opened};
 use crate::limits::ROUNDS;
 use crate::machine::{Bench, Effect, Event, ANNOUNCE, SIGN};
 
@@ -50,10 +50,13 @@ struct Round {
 }
 
 impl Coverage {
-    /// Counts a file: 0 for a good one, else the number of its fault.
-    pub fn note_file(&mut self, fault: u8) {
+    /// Opens a file and counts it, under 0 or the number of its fault.
+    pub fn open<'a>(&mut self, file: &'a [u8]) -> Option<Opened<'a>> {
+        let opened = open(file);
+        let fault = *opened.as_ref().err().unwrap_or(&0);
         self.schedules += 1;
         self.files[fault as usize] += 1;
+        opened.ok()
     }
 
     /// Plays an event and counts what came of it.
@@ -219,15 +222,12 @@ impl Coverage {
 #[cfg(test)]
 mod tests {
     use super::*;
-    use crate::file::open;
     use crate::generate::{file, Kind, Wish};
 
     fn cover(coverage: &mut Coverage, bytes: &[u8]) {
-        let opened = match open(bytes) {
-            Ok(opened) => opened,
-            Err(fault) => return coverage.note_file(fault),
+        let Some(opened) = coverage.open(bytes) else {
+            return;
         };
-        coverage.note_file(0);
         let mut bench = opened.bench();
         for e in opened.events() {
             coverage.play(&mut bench, e);

@@ -7,7 +7,6 @@
 use crate::board::Status;
 use crate::boards::Boards;
 use crate::coverage::Coverage;
-use crate::file::open;
 use crate::limits::{opening_of, Sizes, BOARDS, IDENTIFIERS, ROUNDS};
 use crate::machine::{Bench, Effect, Event, ANNOUNCE, DELIVER, PROPOSE, SIGN, TURN};
 use crate::trial::Trial;
@@ -207,14 +206,7 @@ impl Trial for Check {
     }
 
     fn trouble(&mut self, file: &[u8], coverage: &mut Coverage) -> Option<String> {
-        let opened = match open(file) {
-            Ok(opened) => opened,
-            Err(fault) => {
-                coverage.note_file(fault);
-                return None;
-            }
-        };
-        coverage.note_file(0);
+        let opened = coverage.open(file)?;
         let mut bench = opened.bench();
         let mut record = Record::new(opened.n, opened.faulty);
         if let Some(violation) = record.violation(&bench) {

@@ -16,7 +16,7 @@ use Rattle.delivery.specs.Bus.{isBoard}
 use Rattle.delivery.specs.Sets.{inSet, bits}
 use Rattle.delivery.specs.Owed.{receivers}
 use Rattle.delivery.proofs.TestLaws.{decided}
-use Rattle.delivery.proofs.OwedLaws.{Complete}
+use Rattle.delivery.proofs.OwedLaws.{Whole}
 use Rattle.delivery.proofs.GrowthLaws.{Grows}
 use Rattle.vote.specs.Boards.{freshBoard}
 use Rattle.vote.proofs.ProperLaws.{Proper}
@@ -55,7 +55,7 @@ pub record Fit (L : Limits) (S : Setup) (c : Bench) : Type 0 where
   pub same-sound : c .sound ≡ S .sound
   pub boards-size : length (c .boards) ≡ L .boards
   pub signers-size : length (c .signers) ≡ L .boards
-  pub complete : Complete L (c .owed)
+  pub complete : Whole L (c .owed)
   -- its boards and signers are as the crates below have them
   pub proper : (k : ℕ) → Proper L (boardAt L c k)
   pub grounded : (k : ℕ) → Grounded L (c .n) (boardAt L c k)

@@ -25,7 +25,7 @@ use Rattle.delivery.proofs.TestLaws.{decided}
 use Rattle.delivery.proofs.CountLaws.{reads-every}
 use Rattle.delivery.proofs.SetLaws.{in-setOf-outside, in-none, set-none, with-next}
 use Rattle.delivery.proofs.DeliveredLaws.{heard-nothing}
-use Rattle.delivery.proofs.OwedLaws.{nothing-complete, owed-nothing}
+use Rattle.delivery.proofs.OwedLaws.{nothing-whole, owed-nothing}
 use Rattle.vote.specs.Boards.{freshBoard}
 use Rattle.vote.specs.declared.board.Board.{Board}
 use Rattle.vote.proofs.BoardLaws.{fresh-delivered}
@@ -159,7 +159,7 @@ fresh-fit L S =
       same-sound = refl;
       boards-size = length-replicate (L .boards) (freshBoard L);
       signers-size = length-replicate (L .boards) (freshSigner (L .identifiers));
-      complete = nothing-complete L;
+      complete = nothing-whole L;
       proper = λ k. subst⁻¹ (Proper L) (board-fresh L (S .n) (S .sound) k) (fresh-proper L);
       grounded = λ k. subst⁻¹ (Grounded L (S .n)) (board-fresh L (S .n) (S .sound) k) (fresh-grounded L (S .n));
       formed = λ k.

@@ -15,7 +15,7 @@ use Rattle.signer.proofs.SignerLaws.{WellFormed, sign-wellformed, sign-last}
 use Rattle.delivery.specs.Limits.{Limits}
 use Rattle.delivery.specs.Sets.{inSet}
 use Rattle.delivery.specs.Owed.{receivers}
-use Rattle.delivery.proofs.OwedLaws.{Complete, after-signing-complete, after-delivery-complete}
+use Rattle.delivery.proofs.OwedLaws.{Whole, after-signing-whole, after-delivery-whole}
 use Rattle.vote.specs.Boards.{freshBoard}
 use Rattle.vote.specs.Turns.{turn}
 use Rattle.vote.specs.Calls.{Call, own-turn, delivery, called}
@@ -65,14 +65,14 @@ module _ (L : Limits) (c : Bench) (a : ℕ) where
   signers-kept c′ (listens x s w y z t n e) = ap (λ (y : Bench). length (y .signers)) e
   signers-kept c′ (lies i v s w t e) = ap (λ (y : Bench). length (y .signers)) e ∙ length-setNth (c .signers) a _
 
-  owed-complete : (c′ : Bench) → Change L c a c′ → Complete L (c .owed) → Complete L (c′ .owed)
+  owed-complete : (c′ : Bench) → Change L c a c′ → Whole L (c .owed) → Whole L (c′ .owed)
   unfolding withBoardAt withOwed withSignature
-  owed-complete c′ (keeps-quiet x s w d e) k = subst⁻¹ (λ (y : Bench). Complete L (y .owed)) e k
+  owed-complete c′ (keeps-quiet x s w d e) k = subst⁻¹ (λ (y : Bench). Whole L (y .owed)) e k
   owed-complete c′ (says x s w t r o d e) k =
-      subst⁻¹ (λ (y : Bench). Complete L (y .owed)) e (after-signing-complete L (c .owed) a (x .id .0) (c .sound) _ k)
+      subst⁻¹ (λ (y : Bench). Whole L (y .owed)) e (after-signing-whole L (c .owed) a (x .id .0) (c .sound) _ k)
   owed-complete c′ (listens x s w y z t n e) k =
-      subst⁻¹ (λ (y : Bench). Complete L (y .owed)) e (after-delivery-complete L (c .owed) a (x .speaker) (x .id .0) (c .sound) _ k)
-  owed-complete c′ (lies i v s w t e) k = subst⁻¹ (λ (y : Bench). Complete L (y .owed)) e k
+      subst⁻¹ (λ (y : Bench). Whole L (y .owed)) e (after-delivery-whole L (c .owed) a (x .speaker) (x .id .0) (c .sound) _ k)
+  owed-complete c′ (lies i v s w t e) k = subst⁻¹ (λ (y : Bench). Whole L (y .owed)) e k
 
   -- board a as it then is: changed by a call, or as it was
   unfoldable pub boardOf : (c′ : Bench) → Change L c a c′ → Board

@@ -1,6 +1,6 @@
 ghost use mathlib.Core.Path.{_≡_};
 ghost use lib.ListN.{getD};
-ghost use Rattle.bench.specs.Events.{eventFrom};
+ghost use Rattle.bench.specs.Events.{highFirst, eventFrom};
 
 // An event as it stands in a schedule, whatever its fields hold.
 pub struct Event {
@@ -40,6 +40,13 @@ impl Event {
     // The bytes of an event in a list of them.
     pub const BYTES: usize = 6;
 
+    // A number in two bytes, the high one first.
+    pub fn high_first(high: u8, low: u8) -> u16
+        ensures { λ r. ⌜ r ≡ highFirst high low ⌝ }
+    {
+        (high as u16) * 256 + low as u16
+    }
+
     // The event that the first bytes of a list are; bytes that are not there count as 0.
     pub fn read(bytes: &[u8]) -> Event
         ensures { λ r. ⌜ r ≡ eventFrom (now (bytes .entry)) ⌝ }
@@ -55,7 +62,7 @@ impl Event {
             a,
             b,
             id,
-            value: (high as u16) * 256 + low as u16,
+            value: Event::high_first(high, low),
         }
     }
 }

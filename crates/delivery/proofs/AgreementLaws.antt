@@ -18,12 +18,12 @@ use Rattle.delivery.proofs.OneRoundLaws.{Opens, reads-opens, one-openin
 -- one round of a bus that has boards, where `may` says what is allowed in it
 module _ (L : Limits) (n : ℕ) (h : Store) (may : ℕ → Bool) (r : ℕ) (some : 1 ≤ n) where
   -- what is allowed in the next round was opened in this one, or allowed in it while its ballots are divided
-  after-cases : (w : ℕ) (a : AllowedNext L n h may r w) → (Opens L n h may r w) ⊎ (Divided L n h may r (a .speakers) × (may w ≡ true))
+  after-cases : (w : ℕ) (a : AllowedNext L n h may r w) → (Opens L n h may r w) ⊎ (Divided L n h r (a .speakers) × (may w ≡ true))
   after-cases w a =
       ⊎-elim
       (λ (e : overlap n ≤ countOf (bears L h r w) (a .speakers)).
       inl (carried-opened L n h may r w (a .speakers) (a .value) (a .carries) (omega (arith, overlap-pos n some))))
-      (λ (d : Divided L n h may r (a .speakers) × (may w ≡ true)). inr d)
+      (λ (d : Divided L n h r (a .speakers) × (may w ≡ true)). inr d)
       (a .carries .reason)
 
   -- so it was allowed in this one
@@ -40,7 +40,7 @@ module _ (L : Limits) (n : ℕ) (h : Store) (may : ℕ → Bool) (r : ℕ) (some
 
   -- and any q speakers share e of them: no q are divided
   quorum-crosses : (v : ℕ) → (v ≡ 0 → ⊥) → quorum n ≤ countIn n (counts L n h may r v) → (w : ℕ) (a : AllowedNext L n h may r w)
-      → Divided L n h may r (a .speakers) → ⊥
+      → Divided L n h r (a .speakers) → ⊥
   quorum-crosses v z o w a d =
       omega (
         arith,

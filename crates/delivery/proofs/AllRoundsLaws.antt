@@ -1,5 +1,5 @@
 -- Laws of what is allowed from round to round, and of what is accepted by it. Assumes nothing.
-use Prim.Native.Nat.{ℕ, zero, suc, _+_, _≤_, _<_}
+use Prim.Native.Nat.{ℕ, zero, suc, _+_, _≤_}
 use native.Mathlib.Omega.{arith}
 use native.Mathlib.Numerals.{add-one}
 use mathlib.Core.Path.{_≡_, refl, sym, ap, _∙_}
@@ -10,9 +10,9 @@ use Rattle.signer.specs.Log.{entryOf}
 use Rattle.delivery.specs.Tests.{neg, _or_}
 use Rattle.delivery.specs.Limits.{Limits}
 use Rattle.delivery.specs.Delivered.{Store}
-use Rattle.delivery.specs.Acceptance.{says, bears, allowedAfter, allowed, acceptsOpening, acceptsBallot, acceptsSome}
+use Rattle.delivery.specs.Acceptance.{says, openingEntry, ballotEntry, bears, backs, allowedAfter, allowed, acceptsOpening, acceptsBallot, acceptsSome}
 use Rattle.delivery.proofs.TestLaws.{fails, decided, same-test, or-cases, or-left, or-right}
-use Rattle.delivery.proofs.OneRoundLaws.{ballotEntry, says-value, value-says, openingEntry, Opens, opens-reads, reads-opens, bears-reads, reads-bears, counts-reads, reads-counts, some-reads, reads-some, ballot-opened, after-reads, Counts, one-opening}
+use Rattle.delivery.proofs.OneRoundLaws.{says-value, value-says, Opens, opens-reads, reads-opens, bears-reads, reads-bears, counts-reads, reads-counts, some-reads, reads-some, ballot-opened, after-reads, Counts, one-opening}
 
 module _ (L : Limits) (n : ℕ) (h : Store) where
   -- nothing is allowed in round 0, every value in round 1, and in a later one what the one before leaves
@@ -36,18 +36,6 @@ module _ (L : Limits) (n : ℕ) (h : Store) where
   allowed-blank (suc zero) = refl
   allowed-blank (suc (suc r)) =
       fails (allowed L n h (suc (suc r)) 0) (λ t. after-reads L n h (allowed L n h (suc r)) (suc r) 0 t .value refl)
-
--- an entry of nothing or of the blank says nothing of values
-pub says-low : (x : ℕ) (p : ℕ → Bool) → x < 2 → p 0 ≡ false → says x p ≡ false
-unfolding says
-says-low zero p l e = refl
-says-low (suc zero) p l e = e
-says-low (suc (suc w)) p l e = absurd (omega arith)
-
-pub says-none : (x : ℕ) (p : ℕ → Bool) → ((w : ℕ) → p w ≡ false) → says x p ≡ false
-unfolding says
-says-none zero p f = refl
-says-none (suc w) p f = f w
 
 -- acceptance in a round
 module _ (L : Limits) (n : ℕ) (h : Store) (r : ℕ) where
@@ -88,7 +76,7 @@ module _ (L : Limits) (n : ℕ) (h : Store) (r : ℕ) where
   ballot-needs s w z b = reads-opening w (ballot-opened L n h may r w s z (ballot-reads s w b))
 
   -- an opening is accepted that was sent by the coordinator, if its value is allowed
-  pub opening-sent : (w : ℕ) → openingEntry L n h may r ≡ entryOf w → acceptsOpening L n h r w ≡ allowed L n h r w
+  pub opening-sent : (w : ℕ) → openingEntry L n h r ≡ entryOf w → acceptsOpening L n h r w ≡ allowed L n h r w
   opening-sent w e =
       same-test
       (acceptsOpening L n h r w)
@@ -99,7 +87,7 @@ module _ (L : Limits) (n : ℕ) (h : Store) (r : ℕ) where
       w
       (record { said = e; value = λ z. true≢false (sym a ∙ ap may z ∙ allowed-blank L n h r); permitted = a }))
 
-  pub opening-unsent : (w : ℕ) → (openingEntry L n h may r ≡ entryOf w → ⊥) → acceptsOpening L n h r w ≡ false
+  pub opening-unsent : (w : ℕ) → (openingEntry L n h r ≡ entryOf w → ⊥) → acceptsOpening L n h r w ≡ false
   opening-unsent w f = fails (acceptsOpening L n h r w) (λ o. f (opening-reads w o .said))
 
   -- a ballot is accepted that was sent, if it is blank or its opening is accepted
@@ -134,7 +122,7 @@ module _ (L : Limits) (n : ℕ) (h : Store) (r : ℕ) where
   -- what is accepted of s is blank, or bears the value of the coordinator's opening where that is allowed
   some-cases : (s : ℕ) → acceptsSome L n h r s ≡ true
       → (bears L h r 0 s ≡ true)
-      ⊎ ((w : ℕ) × (openingEntry L n h may r ≡ entryOf w) × (may w ≡ true) × (bears L h r w s ≡ true))
+      ⊎ ((w : ℕ) × (openingEntry L n h r ≡ entryOf w) × (may w ≡ true) × (bears L h r w s ≡ true))
   some-cases s b =
       let x = accepted-reads s b in
       let y = ballot-reads s (x .0) (x .1) in
@@ -146,7 +134,7 @@ module _ (L : Limits) (n : ℕ) (h : Store) (r : ℕ) where
   blank-some : (s : ℕ) → bears L h r 0 s ≡ true → acceptsSome L n h r s ≡ true
   blank-some s b = reads-accepted s 0 (ballot-sent s 0 (inl refl) ∙ b)
 
-  pub some-unopened : (s : ℕ) → says (openingEntry L n h may r) may ≡ false → acceptsSome L n h r s ≡ bears L h r 0 s
+  pub some-unopened : (s : ℕ) → says (openingEntry L n h r) may ≡ false → acceptsSome L n h r s ≡ bears L h r 0 s
   some-unopened s o =
       same-test
       (acceptsSome L n h r s)
@@ -154,19 +142,20 @@ module _ (L : Limits) (n : ℕ) (h : Store) (r : ℕ) where
       (λ b.
       ⊎-elim
       (λ (c : bears L h r 0 s ≡ true). c)
-      (λ c. absurd (true≢false (sym (value-says (openingEntry L n h may r) (c .0) may (c .1) (c .2)) ∙ o)))
+      (λ c. absurd (true≢false (sym (value-says (openingEntry L n h r) (c .0) may (c .1) (c .2)) ∙ o)))
       (some-cases s b))
       (blank-some s)
 
-  pub some-opened-or : (s : ℕ) → says (openingEntry L n h may r) may ≡ true
-      → acceptsSome L n h r s ≡ (bears L h r 0 s or says (openingEntry L n h may r) (λ (w : ℕ). bears L h r w s))
+  pub some-opened-or : (s : ℕ) → says (openingEntry L n h r) may ≡ true
+      → acceptsSome L n h r s ≡ (bears L h r 0 s or backs L h r (openingEntry L n h r) s)
+  unfolding backs
   some-opened-or s o = same-test (acceptsSome L n h r s) (blank or backing) to from
     where
       blank : Bool
       blank = bears L h r 0 s
 
       backing : Bool
-      backing = says (openingEntry L n h may r) (λ (w : ℕ). bears L h r w s)
+      backing = backs L h r (openingEntry L n h r) s
 
       to : acceptsSome L n h r s ≡ true → (blank or backing) ≡ true
       to b =
@@ -176,13 +165,13 @@ module _ (L : Limits) (n : ℕ) (h : Store) (r : ℕ) where
           or-right
           blank
           backing
-          (value-says (openingEntry L n h may r) (c .0) (λ (w : ℕ). bears L h r w s) (c .1) (c .3)))
+          (value-says (openingEntry L n h r) (c .0) (λ (w : ℕ). bears L h r w s) (c .1) (c .3)))
           (some-cases s b)
 
       backed : backing ≡ true → acceptsSome L n h r s ≡ true
       backed c =
-          let x = says-value (openingEntry L n h may r) (λ (w : ℕ). bears L h r w s) c in
-          let y = says-value (openingEntry L n h may r) may o in
+          let x = says-value (openingEntry L n h r) (λ (w : ℕ). bears L h r w s) c in
+          let y = says-value (openingEntry L n h r) may o in
           let e : y .0 ≡ x .0 = omega (arith, x .1, y .1) in
           let a : allowed L n h r (x .0) ≡ true = rw e at (y .2) in
           reads-accepted s (x .0) (ballot-sent s (x .0) (inr (opening-sent (x .0) (x .1) ∙ a)) ∙ x .2)

@@ -17,11 +17,11 @@ use Rattle.delivery.specs.Counting.{countIn, countOf}
 use Rattle.delivery.specs.Limits.{Limits}
 use Rattle.delivery.specs.Bus.{quorum, overlap}
 use Rattle.delivery.specs.Delivered.{Store}
-use Rattle.delivery.specs.Acceptance.{says, bears, allowedAfter, opens, counts, countsSome, allowed, acceptsBallot, acceptsSome}
+use Rattle.delivery.specs.Acceptance.{says, openingEntry, bears, backs, allowedAfter, opens, counts, countsSome, allowed, acceptsBallot, acceptsSome}
 use Rattle.delivery.proofs.TestLaws.{or-left, or-right, same-test}
 use Rattle.delivery.proofs.CountLaws.{overlap-pos, overlap-le, count-cong, count-mono, count-or, find}
 use Rattle.delivery.proofs.ChoosingLaws.{choice-within, find-member, count-alike, length-either, Chosen, choose}
-use Rattle.delivery.proofs.OneRoundLaws.{says-value, value-says, Opens, bears-reads, reads-bears, Counts, Divided, Carries, reads-after, carried-opened, openingEntry, opens-reads, reads-opens, counts-reads, reads-counts, some-reads, ballot-opened}
+use Rattle.delivery.proofs.OneRoundLaws.{says-value, value-says, Opens, bears-reads, reads-bears, Counts, Divided, Carries, reads-after, carried-opened, opens-reads, reads-opens, counts-reads, reads-counts, some-reads, ballot-opened}
 use Rattle.delivery.proofs.AllRoundsLaws.{allowed-next, allowed-blank}
 
 -- q of b and d: d first
@@ -32,11 +32,7 @@ share q b d l = (omega arith, omega arith, omega arith)
 below : (c e : ℕ) → 1 ≤ e → (min c (e - 1) ≤ c) × (min c (e - 1) < e)
 below c e l = (omega arith, omega arith)
 
--- the ballot of round r that s gave bears the value of entry x
-unfoldable pub backs : Limits → Store → ℕ → ℕ → ℕ → Bool
-backs L h r x s = says x (λ (w : ℕ). bears L h r w s)
-
--- how many ballots of 1 to n are blank, and how many bear that value
+-- how many ballots of 1 to n are blank, and how many bear what the entry x stands for
 abbrev pub blank : Limits → ℕ → Store → ℕ → ℕ
 blank L n h r = countIn n (bears L h r 0)
 
@@ -135,7 +131,7 @@ module _ (L : Limits) (n : ℕ) (h : Store) (may : ℕ → Bool) (r x : ℕ) (o 
         choice-within (bears L h r 0) (c .choice),
       )
 
-  backing-few : (ss : List ℕ) → 1 ≤ overlap n → Divided L n h may r ss → countOf (backs L h r x) ss < overlap n
+  backing-few : (ss : List ℕ) → 1 ≤ overlap n → Divided L n h r ss → countOf (backs L h r x) ss < overlap n
   backing-few ss e d = go (decLe 1 (countOf (backs L h r x) ss))
     where
       go : Dec (1 ≤ countOf (backs L h r x) ss) → countOf (backs L h r x) ss < overlap n
@@ -154,7 +150,7 @@ module _ (L : Limits) (n : ℕ) (h : Store) (may : ℕ → Bool) (r x : ℕ) (o 
       let k = o .complete w (carried-opened L n h may r w ss z c (omega (arith, overlap-pos n some))) in
       let b : countOf (backs L h r x) ss ≤ backing L n h r x = choice-within (backs L h r x) (c .choice) in
       inl (k, omega (arith, size w ss c), omega (arith, same w k ss)))
-      (λ (d : Divided L n h may r ss × (may w ≡ true)).
+      (λ (d : Divided L n h r ss × (may w ≡ true)).
       let b : countOf (backs L h r x) ss ≤ backing L n h r x = choice-within (backs L h r x) (c .choice) in
       let f = backing-few ss (overlap-pos n some) (d .0) in
       inr (omega (arith, size w ss c), d .1))
@@ -162,7 +158,7 @@ module _ (L : Limits) (n : ℕ) (h : Store) (may : ℕ → Bool) (r x : ℕ) (o 
 
   -- and the counts give a choice of exactly q
   chosen-allowed : (w i j : ℕ) (k : Chosen (bears L h r 0) (backs L h r x) apart n i j) → (w ≡ 0 → ⊥) → i + j ≡ quorum n
-      → (overlap n ≤ countOf (bears L h r w) (k .numbers)) ⊎ (Divided L n h may r (k .numbers) × (may w ≡ true))
+      → (overlap n ≤ countOf (bears L h r w) (k .numbers)) ⊎ (Divided L n h r (k .numbers) × (may w ≡ true))
       → allowedAfter L n h may r w ≡ true
   chosen-allowed w i j k z e f =
       reads-after
@@ -191,7 +187,7 @@ module _ (L : Limits) (n : ℕ) (h : Store) (may : ℕ → Bool) (r x : ℕ) (o 
 
   -- or fewer do: then they are divided
   chosen-divided : (i j : ℕ) (k : Chosen (bears L h r 0) (backs L h r x) apart n i j) → 1 ≤ overlap n → j < overlap n
-      → Divided L n h may r (k .numbers)
+      → Divided L n h r (k .numbers)
   chosen-divided i j k e l v z = go (decLe 1 (countOf (bears L h r v) (k .numbers)))
     where
       go : Dec (1 ≤ countOf (bears L h r v) (k .numbers)) → countOf (bears L h r v) (k .numbers) < overlap n
@@ -227,26 +223,23 @@ module _ (L : Limits) (n : ℕ) (h : Store) (may : ℕ → Bool) (r x : ℕ) (o 
 
 -- there is always such an x
 module _ (L : Limits) (n : ℕ) (h : Store) (may : ℕ → Bool) (r : ℕ) where
-  abbrev sent : ℕ
-  sent = openingEntry L n h may r
-
-  pub opened-entry : Opened L n h may r (if says sent (opens L n h may r) then sent else 0)
+  pub opened-entry : Opened L n h may r (if says (openingEntry L n h r) (opens L n h may r) then openingEntry L n h r else 0)
   opened-entry =
       if-elim
       (λ (x : ℕ). Opened L n h may r x)
-      (says sent (opens L n h may r))
-      sent
+      (says (openingEntry L n h r) (opens L n h may r))
+      (openingEntry L n h r)
       0
       (λ t. record { sound = λ w e. opening t w e; complete = λ w o. o .said })
       (λ t.
       record {
         sound = λ w e. absurd (omega arith);
-        complete = λ w o. absurd (true≢false (sym (value-says sent w (opens L n h may r) (o .said) (reads-opens L n h may r w o)) ∙ t));
+        complete = λ w o. absurd (true≢false (sym (value-says (openingEntry L n h r) w (opens L n h may r) (o .said) (reads-opens L n h may r w o)) ∙ t));
       })
     where
-      opening : says sent (opens L n h may r) ≡ true → (w : ℕ) → sent ≡ entryOf w → Opens L n h may r w
+      opening : says (openingEntry L n h r) (opens L n h may r) ≡ true → (w : ℕ) → openingEntry L n h r ≡ entryOf w → Opens L n h may r w
       opening t w e =
-          let y = says-value sent (opens L n h may r) t in
+          let y = says-value (openingEntry L n h r) (opens L n h may r) t in
           let same-value : y .0 ≡ w = omega (arith, y .1) in
           opens-reads L n h may r w (rw same-value at (y .2))
 
@@ -260,7 +253,7 @@ module _ (L : Limits) (n : ℕ) (h : Store) (may : ℕ → Bool) (r : ℕ) where
       (carries-counts L n h may r x opened-entry w ss some z l c)
     where
       x : ℕ
-      x = if says sent (opens L n h may r) then sent else 0
+      x = if says (openingEntry L n h r) (opens L n h may r) then openingEntry L n h r else 0
 
 -- the same of accepted ballots, where q boards or more have one
 module _ (L : Limits) (n : ℕ) (h : Store) (r : ℕ) (some : 1 ≤ n) (low : 1 ≤ r) (enough : quorum n ≤ countIn n (acceptsSome L n h r)) where
@@ -268,7 +261,7 @@ module _ (L : Limits) (n : ℕ) (h : Store) (r : ℕ) (some : 1 ≤ n) (low : 1 
   may = allowed L n h r
 
   abbrev entry : ℕ
-  entry = if says (sent L n h may r) (opens L n h may r) then sent L n h may r else 0
+  entry = if says (openingEntry L n h r) (opens L n h may r) then openingEntry L n h r else 0
 
   -- so many are blank or bear the opening's value
   counted : quorum n ≤ blank L n h r + backing L n h r entry

@@ -6,7 +6,7 @@ use mathlib.Core.Bool.{Bool, true, false, true≢false}
 use mathlib.Core.Logic.{_⊎_, inl, inr, ⊎-elim}
 use mathlib.Core.List.{List, [], _∷_, List·Memᴰ, List·Memᴰ·head, List·Memᴰ·tail, List·Memᴰ·cases-cons, List·Memᴰ·not-nil}
 use lib.ListN.{length}
-use Rattle.delivery.specs.Counting.{plus, countIn, countOf, everyOf, someOf}
+use Rattle.delivery.specs.Counting.{plus, countIn, countOf, everyOf, someChoice}
 use Rattle.delivery.proofs.CountLaws.{plus-mono}
 use Rattle.delivery.proofs.TestLaws.{and-left, and-right, and-in, or-cases, or-left, or-right}
 
@@ -16,26 +16,26 @@ pub data Choice : ℕ → List ℕ → Type 0 where
   skip : {n : ℕ} {ks : List ℕ} → Choice n ks → Choice (suc n) ks
   pick : {n : ℕ} {ks : List ℕ} → Choice n ks → Choice (suc n) (suc n ∷ ks)
 
--- `someOf` says that there is one which passes
-pub some-choice : (n : ℕ) (p : List ℕ → Bool) → someOf n p ≡ true → (ks : List ℕ) × (Choice n ks) × (p ks ≡ true)
-unfolding someOf
+-- `someChoice` says that there is one which passes
+pub some-choice : (n : ℕ) (p : List ℕ → Bool) → someChoice n p ≡ true → (ks : List ℕ) × (Choice n ks) × (p ks ≡ true)
+unfolding someChoice
 some-choice zero p h = ([], none, h)
 some-choice (suc n) p h =
-    go (or-cases (someOf n (λ (ks : List ℕ). p (suc n ∷ ks))) (someOf n p) h) (some-choice n (λ (ks : List ℕ). p (suc n ∷ ks))) (some-choice n p)
+    go (or-cases (someChoice n (λ (ks : List ℕ). p (suc n ∷ ks))) (someChoice n p) h) (some-choice n (λ (ks : List ℕ). p (suc n ∷ ks))) (some-choice n p)
   where
-    go : (someOf n (λ (ks : List ℕ). p (suc n ∷ ks)) ≡ true) ⊎ (someOf n p ≡ true)
-        → (someOf n (λ (ks : List ℕ). p (suc n ∷ ks)) ≡ true → (ks : List ℕ) × (Choice n ks) × (p (suc n ∷ ks) ≡ true))
-        → (someOf n p ≡ true → (ks : List ℕ) × (Choice n ks) × (p ks ≡ true))
+    go : (someChoice n (λ (ks : List ℕ). p (suc n ∷ ks)) ≡ true) ⊎ (someChoice n p ≡ true)
+        → (someChoice n (λ (ks : List ℕ). p (suc n ∷ ks)) ≡ true → (ks : List ℕ) × (Choice n ks) × (p (suc n ∷ ks) ≡ true))
+        → (someChoice n p ≡ true → (ks : List ℕ) × (Choice n ks) × (p ks ≡ true))
         → (ks : List ℕ) × (Choice (suc n) ks) × (p ks ≡ true)
     go (inl e) f g = let x = f e in (suc n ∷ x .0, pick (x .1), x .2)
     go (inr e) f g = let x = g e in (x .0, skip (x .1), x .2)
 
-pub choice-some : {n : ℕ} {ks : List ℕ} (p : List ℕ → Bool) → Choice n ks → p ks ≡ true → someOf n p ≡ true
-unfolding someOf
+pub choice-some : {n : ℕ} {ks : List ℕ} (p : List ℕ → Bool) → Choice n ks → p ks ≡ true → someChoice n p ≡ true
+unfolding someChoice
 choice-some p none h = h
-choice-some p (skip {n = n} c) h = or-right (someOf n (λ (ks : List ℕ). p (suc n ∷ ks))) (someOf n p) (choice-some p c h)
+choice-some p (skip {n = n} c) h = or-right (someChoice n (λ (ks : List ℕ). p (suc n ∷ ks))) (someChoice n p) (choice-some p c h)
 choice-some p (pick {n = n} c) h =
-    or-left (someOf n (λ (ks : List ℕ). p (suc n ∷ ks))) (someOf n p) (choice-some (λ (ks : List ℕ). p (suc n ∷ ks)) c h)
+    or-left (someChoice n (λ (ks : List ℕ). p (suc n ∷ ks))) (someChoice n p) (choice-some (λ (ks : List ℕ). p (suc n ∷ ks)) c h)
 
 -- one more on both sides, or on one
 plus-both : (b : Bool) (l n x y : ℕ) → l + x ≤ n + y → suc l + plus b x ≤ suc n + plus b y

@@ -50,7 +50,7 @@ unfolding countIn
 count-le zero p = omega arith
 count-le (suc n) p = plus-le (p (suc n)) (countIn n p) n (count-le n p)
 
--- all pass exactly if the count is n
+-- all of 1 to n pass: each does
 pub every-reads : (n : ℕ) (p : ℕ → Bool) → everyIn n p ≡ true → (k : ℕ) → 1 ≤ k → k ≤ n → p k ≡ true
 unfolding everyIn
 every-reads zero p h k l u = absurd (omega arith)
@@ -66,6 +66,7 @@ reads-every zero p h = refl
 reads-every (suc n) p h =
     and-in (p (suc n)) (everyIn n p) (h (suc n) (omega arith) (omega arith)) (reads-every n p (λ k l u. h k l (omega arith)))
 
+-- all pass exactly if the count is n
 count-every : (n : ℕ) (p : ℕ → Bool) → everyIn n p ≡ true → countIn n p ≡ n
 unfolding countIn plus
 count-every zero p h = refl
@@ -153,6 +154,18 @@ count-or zero p p′ = omega arith
 count-or (suc n) p p′ =
     plus-or (p (suc n)) (p′ (suc n)) (countIn n p) (countIn n p′) (countIn n (λ (k : ℕ). p k or p′ k)) (count-or n p p′)
 
+-- a test that fails above b counts no more there
+pub count-beyond : (n b : ℕ) (p : ℕ → Bool) → ((k : ℕ) → b < k → p k ≡ false) → countIn n p ≡ countIn (min n b) p
+unfolding countIn plus
+count-beyond zero b p h = let e : 0 ≡ min 0 b = omega arith in ap (λ (m : ℕ). countIn m p) e
+count-beyond (suc n) b p h = go (decLe (suc n) b) (count-beyond n b p h)
+  where
+    go : Dec (suc n ≤ b) → countIn n p ≡ countIn (min n b) p → countIn (suc n) p ≡ countIn (min (suc n) b) p
+    go (yes l) ih = let e : suc n ≡ min (suc n) b = omega arith in ap (λ (m : ℕ). countIn m p) e
+    go (no g) ih =
+        let e : min n b ≡ min (suc n) b = omega arith in
+        ap (λ (t : Bool). plus t (countIn n p)) (h (suc n) (omega arith)) ∙ ih ∙ ap (λ (m : ℕ). countIn m p) e
+
 -- two quorums have e more than all boards together, so they share e boards; e is 1 or more, and at most q
 pub quorums-meet : (n : ℕ) → n + overlap n ≤ quorum n + quorum n
 quorums-meet n = omega arith
@@ -166,15 +179,3 @@ overlap-pos n h = omega arith
 
 pub overlap-le : (n : ℕ) → overlap n ≤ quorum n
 overlap-le n = omega arith
-
--- a test that fails above b counts no more there
-pub count-beyond : (n b : ℕ) (p : ℕ → Bool) → ((k : ℕ) → b < k → p k ≡ false) → countIn n p ≡ countIn (min n b) p
-unfolding countIn plus
-count-beyond zero b p h = let e : 0 ≡ min 0 b = omega arith in ap (λ (m : ℕ). countIn m p) e
-count-beyond (suc n) b p h = go (decLe (suc n) b) (count-beyond n b p h)
-  where
-    go : Dec (suc n ≤ b) → countIn n p ≡ countIn (min n b) p → countIn (suc n) p ≡ countIn (min (suc n) b) p
-    go (yes l) ih = let e : suc n ≡ min (suc n) b = omega arith in ap (λ (m : ℕ). countIn m p) e
-    go (no g) ih =
-        let e : min n b ≡ min (suc n) b = omega arith in
-        ap (λ (t : Bool). plus t (countIn n p)) (h (suc n) (omega arith)) ∙ ih ∙ ap (λ (m : ℕ). countIn m p) e

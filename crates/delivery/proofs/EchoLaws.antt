@@ -14,7 +14,7 @@ use Rattle.delivery.specs.Owed.{receivers, lacks, afterSigning, afterDel
 use Rattle.delivery.specs.declared.owed.Owed.{Owed}
 use Rattle.delivery.proofs.TestLaws.{and-left, and-right, and-in, or-cases, or-left, or-right, neg-true, neg-in}
 use Rattle.delivery.proofs.SetLaws.{in-setOf-within, in-setOf-passes}
-use Rattle.delivery.proofs.OwedLaws.{Complete, signing-here, delivery-here}
+use Rattle.delivery.proofs.OwedLaws.{Whole, signing-here, delivery-here}
 
 -- a board lacks a statement: it is sound, is not the speaker, and has not delivered it
 pub record Lacks (sound have s k : ℕ) : Type 0 where
@@ -60,7 +60,7 @@ reads-either m sound have s k =
     (λ (a : Lacks sound have s k). or-right (inSet m k) (lacks sound have s k) (reads-lacks sound have s k a))
 
 -- a statement of a board, in a record with a place for it
-module _ (L : Limits) (o : Owed) (s i sound have : ℕ) (w : Complete L o) (b : isBoard L s ≡ true) (d : isIdentifier (L .identifiers) i ≡ true) where
+module _ (L : Limits) (o : Owed) (s i sound have : ℕ) (w : Whole L o) (b : isBoard L s ≡ true) (d : isIdentifier (L .identifiers) i ≡ true) where
   -- s signed it: a copy is owed to whom one was owed, to each that lacks it, and to no other
   pub signing-owes : (k : ℕ) → 1 ≤ k → k ≤ bits → (inSet (receivers L o s i) k ≡ true) ⊎ Lacks sound have s k
       → inSet (receivers L (afterSigning L o s i sound have) s i) k ≡ true

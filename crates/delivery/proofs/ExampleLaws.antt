@@ -14,13 +14,13 @@ use Rattle.delivery.specs.Counting.{plus, countIn}
 use Rattle.delivery.specs.Limits.{limits}
 use Rattle.delivery.specs.Rounds.{coordinator, phaseOf, identifierOf}
 use Rattle.delivery.specs.Delivered.{placeOf, heardIn, nothingDelivered, heard, deliver}
-use Rattle.delivery.specs.Acceptance.{says, bears, allowed}
+use Rattle.delivery.specs.Acceptance.{says, bears, backs, allowed}
 use Rattle.delivery.specs.Examples.{nine-blank, blank-blank, nine-blank-blank, nine-alone, nine-nine-blank, unopened, LetterE, LetterF, LetterG, LetterH, LetterI, LetterJ, LetterK}
 use Rattle.delivery.specs.declared.delivered.Delivered.{Delivered}
 use Rattle.delivery.proofs.TestLaws.{same-test, fails}
 use Rattle.delivery.proofs.OneRoundLaws.{some-value, value-some}
 use Rattle.delivery.proofs.AllRoundsLaws.{opening-unsent, ballot-unopened}
-use Rattle.delivery.proofs.PassLaws.{among, among-reads, reads-among, Counted, counted-next, every-first, next-allowed}
+use Rattle.delivery.proofs.PassLaws.{among, among-reads, reads-among, Counted, counted-next, every-first, pass-next}
 
 -- what an allowance says of every value
 only : (v w : ℕ) → (v ≡ 0 → ⊥) → among (entryOf v) w ≡ eqb w v
@@ -42,7 +42,7 @@ second : (n : ℕ) (d : Delivered) (x b c a : ℕ) → Counted limits n (heard l
     → allowed limits n (heard limits d) 2 w ≡ among a w
 second n d x b c a k l w =
     sym
-    (next-allowed
+    (pass-next
     limits
     n
     (heard limits d)
@@ -66,7 +66,7 @@ tallies : (Tallied 3 nine-blank 1 1 10)
     × (Tallied 4 nine-blank-blank 2 1 1)
     × (Tallied 4 nine-nine-blank 1 2 10)
 unfolding
-    heardIn placeOf deliver nothingDelivered identifierOf phaseOf isWithin coordinator _and_ _or_ neg if_then_else_ says bears
+    heardIn placeOf deliver nothingDelivered identifierOf phaseOf isWithin coordinator _and_ _or_ neg if_then_else_ says bears backs
     among countIn plus nth setNth
 tallies = (
   record { opening = refl; blanks = refl; backers = refl; left = refl },
@@ -76,6 +76,25 @@ tallies = (
   record { opening = refl; blanks = refl; backers = refl; left = refl },
   record { opening = refl; blanks = refl; backers = refl; left = refl },
 )
+
+-- letters e to j
+pub letter-e : LetterE
+letter-e w = second 3 nine-blank 10 1 1 10 (tallies .0) (omega arith) w ∙ only 9 w (λ z. omega arith)
+
+pub letter-f : LetterF
+letter-f w = second 3 blank-blank 10 2 0 1 (tallies .1) (omega arith) w ∙ every w
+
+pub letter-g : LetterG
+letter-g w = second 3 nine-blank-blank 10 2 1 1 (tallies .2) (omega arith) w ∙ every w
+
+pub letter-h : LetterH
+letter-h w = second 3 nine-alone 10 0 1 0 (tallies .3) (omega arith) w ∙ none w
+
+pub letter-i : LetterI
+letter-i w = second 4 nine-blank-blank 10 2 1 1 (tallies .4) (omega arith) w ∙ every w
+
+pub letter-j : LetterJ
+letter-j w = second 4 nine-nine-blank 10 1 2 10 (tallies .5) (omega arith) w ∙ only 9 w (λ z. omega arith)
 
 -- letter k: no opening was heard, so no ballot with a value is accepted
 pub letter-k : LetterK
@@ -94,22 +113,3 @@ letter-k v = (
       z
       (opening-unsent limits 4 (heard limits (unopened v)) 1 w (λ e. omega arith)),
 )
-
--- and letters e to j
-pub letter-e : LetterE
-letter-e w = second 3 nine-blank 10 1 1 10 (tallies .0) (omega arith) w ∙ only 9 w (λ z. omega arith)
-
-pub letter-f : LetterF
-letter-f w = second 3 blank-blank 10 2 0 1 (tallies .1) (omega arith) w ∙ every w
-
-pub letter-g : LetterG
-letter-g w = second 3 nine-blank-blank 10 2 1 1 (tallies .2) (omega arith) w ∙ every w
-
-pub letter-h : LetterH
-letter-h w = second 3 nine-alone 10 0 1 0 (tallies .3) (omega arith) w ∙ none w
-
-pub letter-i : LetterI
-letter-i w = second 4 nine-blank-blank 10 2 1 1 (tallies .4) (omega arith) w ∙ every w
-
-pub letter-j : LetterJ
-letter-j w = second 4 nine-nine-blank 10 1 2 10 (tallies .5) (omega arith) w ∙ only 9 w (λ z. omega arith)

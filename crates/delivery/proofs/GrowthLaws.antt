@@ -13,7 +13,7 @@ use Rattle.delivery.specs.Limits.{Limits}
 use Rattle.delivery.specs.Bus.{overlap}
 use Rattle.delivery.specs.Rounds.{coordinator, identifierOf}
 use Rattle.delivery.specs.Delivered.{Store, heard, deliver}
-use Rattle.delivery.specs.Acceptance.{bears, allowedAfter, allowed, acceptsOpening, acceptsBallot, acceptsSome}
+use Rattle.delivery.specs.Acceptance.{ballotEntry, bears, allowedAfter, allowed, acceptsOpening, acceptsBallot, acceptsSome}
 use Rattle.delivery.specs.declared.round.Phase.the-variants.{Opening, Ballot}
 use Rattle.delivery.specs.declared.delivered.Delivered.{Delivered}
 use Rattle.delivery.proofs.CountLaws.{count-mono}
@@ -70,7 +70,7 @@ module _ (L : Limits) (n : ℕ) (h h′ : Store) (may may′ : ℕ → Bool) (r 
       ss
       (λ s k.
       let x = c .counted s k in
-      let e : h′ s (identifierOf L Ballot r) ≡ h s (identifierOf L Ballot r) = said-grows g s (identifierOf L Ballot r) (x .0) (x .1 .said) ∙ sym (x .1 .said) in
+      let e : ballotEntry L h′ r s ≡ ballotEntry L h r s = said-grows g s (identifierOf L Ballot r) (x .0) (x .1 .said) ∙ sym (x .1 .said) in
       ap (λ (y : ℕ). eqb y (entryOf v)) (sym e))
 
   carries-grows : (w : ℕ) (ss : List ℕ) → Carries L n h may r w ss → Carries L n h′ may′ r w ss
@@ -81,7 +81,7 @@ module _ (L : Limits) (n : ℕ) (h h′ : Store) (may may′ : ℕ → Bool) (r 
         reason =
             ⊎-elim
             (λ (e : overlap n ≤ countOf (bears L h r w) ss). inl (rw (alike w ss c w) at e))
-            (λ (d : Divided L n h may r ss × (may w ≡ true)). inr (λ v z. rw (alike w ss c v) at (d .0 v z), m w (d .1)))
+            (λ (d : Divided L n h r ss × (may w ≡ true)). inr (λ v z. rw (alike w ss c v) at (d .0 v z), m w (d .1)))
             (c .reason);
       }
 

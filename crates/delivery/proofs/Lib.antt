@@ -8,9 +8,9 @@ pub mod OwedLaws
 pub mod EchoLaws
 pub mod ChoosingLaws
 pub mod OneRoundLaws
+pub mod AllRoundsLaws
 pub mod AgreementLaws
 pub mod GrowthLaws
-pub mod AllRoundsLaws
 pub mod AllowanceLaws
 pub mod PassLaws
 pub mod ExampleLaws

@@ -12,13 +12,11 @@ use lib.Dec.{eqb, leb, ltb}
 use lib.ListN.{length}
 use Rattle.signer.specs.Log.{entryOf}
 use Rattle.delivery.specs.Tests.{_and_, _or_, neg}
-use Rattle.delivery.specs.Counting.{countOf, everyOf, someOf}
+use Rattle.delivery.specs.Counting.{countOf, everyOf, someChoice}
 use Rattle.delivery.specs.Limits.{Limits}
 use Rattle.delivery.specs.Bus.{quorum, overlap}
-use Rattle.delivery.specs.Rounds.{coordinator, identifierOf}
 use Rattle.delivery.specs.Delivered.{Store}
-use Rattle.delivery.specs.Acceptance.{says, opens, bears, counts, countsSome, divided, allowedAfter}
-use Rattle.delivery.specs.declared.round.Phase.the-variants.{Opening, Ballot}
+use Rattle.delivery.specs.Acceptance.{says, openingEntry, ballotEntry, bears, backs, divided, opens, counts, countsSome, allowedAfter}
 use Rattle.delivery.proofs.TestLaws.{and-left, and-right, and-in, or-cases, or-left, or-right, neg-true, neg-in}
 use Rattle.delivery.proofs.ChoosingLaws.{
   Choice,
@@ -35,10 +33,6 @@ unfolding says
 says-value zero p h = absurd (true≢false (sym h))
 says-value (suc w) p h = (w, refl, h)
 
-pub says-nothing : (p : ℕ → Bool) → says 0 p ≡ false
-unfolding says
-says-nothing p = refl
-
 pub says-entry : (w : ℕ) (p : ℕ → Bool) → says (entryOf w) p ≡ p w
 unfolding says
 says-entry w p = refl
@@ -46,6 +40,18 @@ says-entry w p = refl
 pub value-says : (x w : ℕ) (p : ℕ → Bool) → x ≡ entryOf w → p w ≡ true → says x p ≡ true
 unfolding says
 value-says x w p e h = rw e h
+
+-- an entry of nothing or of the blank says nothing of values
+pub says-low : (x : ℕ) (p : ℕ → Bool) → x < 2 → p 0 ≡ false → says x p ≡ false
+unfolding says
+says-low zero p l e = refl
+says-low (suc zero) p l e = e
+says-low (suc (suc w)) p l e = absurd (omega arith)
+
+pub says-none : (x : ℕ) (p : ℕ → Bool) → ((w : ℕ) → p w ≡ false) → says x p ≡ false
+unfolding says
+says-none zero p f = refl
+says-none (suc w) p f = f w
 
 -- "not 0" as a test
 pub some-value : (w : ℕ) → neg (eqb w 0) ≡ true → w ≡ 0 → ⊥
@@ -56,41 +62,80 @@ value-some w h = neg-in (eqb w 0) (ne-eqb w 0 h)
 
 -- a ballot bears w
 module _ (L : Limits) (h : Store) (r : ℕ) where
-  -- the entry of the ballot of s
-  abbrev pub ballotEntry : ℕ → ℕ
-  ballotEntry s = h s (identifierOf L Ballot r)
-
-  pub bears-reads : (w s : ℕ) → bears L h r w s ≡ true → ballotEntry s ≡ entryOf w
+  pub bears-reads : (w s : ℕ) → bears L h r w s ≡ true → ballotEntry L h r s ≡ entryOf w
   unfolding bears
-  bears-reads w s b = eqb-true (ballotEntry s) (entryOf w) b
+  bears-reads w s b = eqb-true (ballotEntry L h r s) (entryOf w) b
 
-  pub reads-bears : (w s : ℕ) → ballotEntry s ≡ entryOf w → bears L h r w s ≡ true
+  pub reads-bears : (w s : ℕ) → ballotEntry L h r s ≡ entryOf w → bears L h r w s ≡ true
   unfolding bears
-  reads-bears w s e = eq-eqb (ballotEntry s) (entryOf w) e
+  reads-bears w s e = eq-eqb (ballotEntry L h r s) (entryOf w) e
 
-  -- it bears the value of an entry that stands for one
-  pub says-bears : (x s : ℕ) → (x ≡ 0 → ⊥) → says x (λ (w : ℕ). bears L h r w s) ≡ eqb (ballotEntry s) x
-  unfolding says bears
-  says-bears zero s z = absurd (z refl)
-  says-bears (suc w) s z = refl
+  -- it bears what an entry stands for
+  pub backs-nothing : (s : ℕ) → backs L h r 0 s ≡ false
+  unfolding backs says
+  backs-nothing s = refl
+
+  pub backs-value : (w s : ℕ) → backs L h r (entryOf w) s ≡ bears L h r w s
+  unfolding backs says
+  backs-value w s = refl
+
+  pub backs-entry : (x s : ℕ) → (x ≡ 0 → ⊥) → backs L h r x s ≡ eqb (ballotEntry L h r s) x
+  unfolding backs says bears
+  backs-entry zero s z = absurd (z refl)
+  backs-entry (suc w) s z = refl
+
+-- divided ballots
+module _ (L : Limits) (n : ℕ) (h : Store) (r : ℕ) where
+  -- every value other than the blank stands fewer than e times in these ballots
+  abbrev pub Divided : List ℕ → Type 0
+  Divided ss = (v : ℕ) → (v ≡ 0 → ⊥) → countOf (bears L h r v) ss < overlap n
+
+  pub divided-reads : (ss : List ℕ) → 1 ≤ overlap n → divided L n h r ss ≡ true → Divided ss
+  unfolding divided
+  divided-reads ss e d v z = go (decLt (countOf (bears L h r v) ss) (overlap n))
+    where
+      test : ℕ → Bool
+      test w = eqb w 0 or ltb (countOf (bears L h r w) ss) (overlap n)
+
+      go : Dec (countOf (bears L h r v) ss < overlap n) → countOf (bears L h r v) ss < overlap n
+      go (yes l) = l
+      go (no l) =
+          let x = find-member (bears L h r v) ss (omega arith) in
+          let y = says-value (ballotEntry L h r (x .0)) test (every-member (λ (s : ℕ). says (ballotEntry L h r s) test) ss d (x .0) (x .1)) in
+          let same : y .0 ≡ v = omega (arith, y .1, bears-reads L h r v (x .0) (x .2)) in
+          ⊎-elim
+          (λ (zero′ : eqb (y .0) 0 ≡ true). absurd (z (sym same ∙ eqb-true (y .0) 0 zero′)))
+          (λ (few : ltb (countOf (bears L h r (y .0)) ss) (overlap n) ≡ true). rw same at (ltb-true (countOf (bears L h r (y .0)) ss) (overlap n) few))
+          (or-cases (eqb (y .0) 0) (ltb (countOf (bears L h r (y .0)) ss) (overlap n)) (y .2))
+
+  pub reads-divided : (ss : List ℕ) → ((s : ℕ) → List·Memᴰ s ss → (w : ℕ) × (ballotEntry L h r s ≡ entryOf w)) → Divided ss → divided L n h r ss ≡ true
+  unfolding divided
+  reads-divided ss all d =
+      member-every
+      (λ (s : ℕ). says (ballotEntry L h r s) test)
+      ss
+      (λ s m. let x = all s m in value-says (ballotEntry L h r s) (x .0) test (x .1) (passes (x .0) (ℕ-discrete (x .0) 0)))
+    where
+      test : ℕ → Bool
+      test w = eqb w 0 or ltb (countOf (bears L h r w) ss) (overlap n)
+
+      passes : (w : ℕ) → Dec (w ≡ 0) → test w ≡ true
+      passes w (yes z) = or-left (eqb w 0) _ (eq-eqb w 0 z)
+      passes w (no z) = or-right (eqb w 0) (ltb (countOf (bears L h r w) ss) (overlap n)) (lt-ltb (countOf (bears L h r w) ss) (overlap n) (d w z))
 
 module _ (L : Limits) (n : ℕ) (h : Store) (may : ℕ → Bool) (r : ℕ) where
-  -- the entry of the coordinator's opening
-  abbrev pub openingEntry : ℕ
-  openingEntry = h (coordinator n r) (identifierOf L Opening r)
-
   -- an opening counts: read and written
   pub record Opens (w : ℕ) : Type 0 where
-    pub said : openingEntry ≡ entryOf w
+    pub said : openingEntry L n h r ≡ entryOf w
     pub value : w ≡ 0 → ⊥
     pub permitted : may w ≡ true
 
   pub opens-reads : (w : ℕ) → opens L n h may r w ≡ true → Opens w
   unfolding opens
   opens-reads w o =
-      let rest : (neg (eqb w 0) and may w) ≡ true = and-right (eqb openingEntry (entryOf w)) _ o in
+      let rest : (neg (eqb w 0) and may w) ≡ true = and-right (eqb (openingEntry L n h r) (entryOf w)) _ o in
       record {
-        said = eqb-true openingEntry (entryOf w) (and-left (eqb openingEntry (entryOf w)) _ o);
+        said = eqb-true (openingEntry L n h r) (entryOf w) (and-left (eqb (openingEntry L n h r) (entryOf w)) _ o);
         value = some-value w (and-left (neg (eqb w 0)) (may w) rest);
         permitted = and-right (neg (eqb w 0)) (may w) rest;
       }
@@ -99,9 +144,9 @@ module _ (L : Limits) (n : ℕ) (h : Store) (may : ℕ → Bool) (r : ℕ) where
   unfolding opens
   reads-opens w o =
       and-in
-      (eqb openingEntry (entryOf w))
+      (eqb (openingEntry L n h r) (entryOf w))
       (neg (eqb w 0) and may w)
-      (eq-eqb openingEntry (entryOf w) (o .said))
+      (eq-eqb (openingEntry L n h r) (entryOf w) (o .said))
       (and-in (neg (eqb w 0)) (may w) (value-some w (o .value)) (o .permitted))
 
   -- one round has one opening
@@ -137,7 +182,7 @@ module _ (L : Limits) (n : ℕ) (h : Store) (may : ℕ → Bool) (r : ℕ) where
       (λ (o : Opens w). or-right (eqb w 0) (opens L n h may r w) (reads-opens w o))
       (b .backed))
 
-  -- a ballot counts, with some value
+  -- a ballot counts, whatever it bears
   pub some-reads : (s : ℕ) → countsSome L n h may r s ≡ true → (w : ℕ) × Counts w s
   unfolding countsSome
   some-reads s b =
@@ -158,55 +203,18 @@ module _ (L : Limits) (n : ℕ) (h : Store) (may : ℕ → Bool) (r : ℕ) where
       let e : x .0 ≡ w = omega (arith, x .1 .said, bears-reads L h r w s t) in
       ballot-opened w s z (rw e at (x .1))
 
-  -- every value other than the blank stands fewer than e times in these ballots
-  abbrev pub Divided : List ℕ → Type 0
-  Divided ss = (v : ℕ) → (v ≡ 0 → ⊥) → countOf (bears L h r v) ss < overlap n
-
-  pub divided-reads : (ss : List ℕ) → 1 ≤ overlap n → divided L n h may r ss ≡ true → Divided ss
-  unfolding divided
-  divided-reads ss e d v z = go (decLt (countOf (bears L h r v) ss) (overlap n))
-    where
-      test : ℕ → Bool
-      test w = eqb w 0 or ltb (countOf (bears L h r w) ss) (overlap n)
-
-      go : Dec (countOf (bears L h r v) ss < overlap n) → countOf (bears L h r v) ss < overlap n
-      go (yes l) = l
-      go (no l) =
-          let x = find-member (bears L h r v) ss (omega arith) in
-          let y = says-value (ballotEntry L h r (x .0)) test (every-member (λ (s : ℕ). says (ballotEntry L h r s) test) ss d (x .0) (x .1)) in
-          let same : y .0 ≡ v = omega (arith, y .1, bears-reads L h r v (x .0) (x .2)) in
-          ⊎-elim
-          (λ (zero′ : eqb (y .0) 0 ≡ true). absurd (z (sym same ∙ eqb-true (y .0) 0 zero′)))
-          (λ (few : ltb (countOf (bears L h r (y .0)) ss) (overlap n) ≡ true). rw same at (ltb-true (countOf (bears L h r (y .0)) ss) (overlap n) few))
-          (or-cases (eqb (y .0) 0) (ltb (countOf (bears L h r (y .0)) ss) (overlap n)) (y .2))
-
-  pub reads-divided : (ss : List ℕ) → ((s : ℕ) → List·Memᴰ s ss → (w : ℕ) × (ballotEntry L h r s ≡ entryOf w)) → Divided ss → divided L n h may r ss ≡ true
-  unfolding divided
-  reads-divided ss all d =
-      member-every
-      (λ (s : ℕ). says (ballotEntry L h r s) test)
-      ss
-      (λ s m. let x = all s m in value-says (ballotEntry L h r s) (x .0) test (x .1) (passes (x .0) (ℕ-discrete (x .0) 0)))
-    where
-      test : ℕ → Bool
-      test w = eqb w 0 or ltb (countOf (bears L h r w) ss) (overlap n)
-
-      passes : (w : ℕ) → Dec (w ≡ 0) → test w ≡ true
-      passes w (yes z) = or-left (eqb w 0) _ (eq-eqb w 0 z)
-      passes w (no z) = or-right (eqb w 0) (ltb (countOf (bears L h r w) ss) (overlap n)) (lt-ltb (countOf (bears L h r w) ss) (overlap n) (d w z))
-
   -- the speakers ss carry w into the next round: different boards of 1 to n whose ballots count, of which
   -- e or more bear w, or which are divided while w is allowed in this round
   pub record Carries (w : ℕ) (ss : List ℕ) : Type 0 where
     pub choice : Choice n ss
     pub counted : (s : ℕ) → List·Memᴰ s ss → (v : ℕ) × Counts v s
-    pub reason : (overlap n ≤ countOf (bears L h r w) ss) ⊎ (Divided ss × (may w ≡ true))
+    pub reason : (overlap n ≤ countOf (bears L h r w) ss) ⊎ (Divided L n h r ss × (may w ≡ true))
 
   carried : ℕ → List ℕ → Bool
   carried w ss =
       eqb (length ss) (quorum n)
       and everyOf (countsSome L n h may r) ss
-      and (leb (overlap n) (countOf (bears L h r w) ss) or (divided L n h may r ss and may w))
+      and (leb (overlap n) (countOf (bears L h r w) ss) or (divided L n h r ss and may w))
 
   carried-reads : (w : ℕ) (ss : List ℕ) → Choice n ss → carried w ss ≡ true → (length ss ≡ quorum n) × Carries w ss
   unfolding carried
@@ -218,18 +226,18 @@ module _ (L : Limits) (n : ℕ) (h : Store) (may : ℕ → Bool) (r : ℕ) where
       reason =
           ⊎-elim
           (λ (l : leb (overlap n) (countOf (bears L h r w) ss) ≡ true). inl (leb-true (overlap n) _ l))
-          (λ (d : (divided L n h may r ss and may w) ≡ true). second d (decLt 0 (overlap n)))
+          (λ (d : (divided L n h r ss and may w) ≡ true). second d (decLt 0 (overlap n)))
           (or-cases (leb (overlap n) (countOf (bears L h r w) ss)) _ (and-right (everyOf (countsSome L n h may r) ss) _ rest));
     },
   )
     where
-      rest : (everyOf (countsSome L n h may r) ss and (leb (overlap n) (countOf (bears L h r w) ss) or (divided L n h may r ss and may w))) ≡ true
+      rest : (everyOf (countsSome L n h may r) ss and (leb (overlap n) (countOf (bears L h r w) ss) or (divided L n h r ss and may w))) ≡ true
       rest = and-right (eqb (length ss) (quorum n)) _ t
 
-      second : (divided L n h may r ss and may w) ≡ true → Dec (0 < overlap n)
-          → (overlap n ≤ countOf (bears L h r w) ss) ⊎ (Divided ss × (may w ≡ true))
+      second : (divided L n h r ss and may w) ≡ true → Dec (0 < overlap n)
+          → (overlap n ≤ countOf (bears L h r w) ss) ⊎ (Divided L n h r ss × (may w ≡ true))
       second d (yes e) =
-          inr (divided-reads ss e (and-left (divided L n h may r ss) (may w) d), and-right (divided L n h may r ss) (may w) d)
+          inr (divided-reads L n h r ss e (and-left (divided L n h r ss) (may w) d), and-right (divided L n h r ss) (may w) d)
       second d (no e) = inl (omega arith)
 
   -- what is allowed in the next round: read and written
@@ -242,10 +250,10 @@ module _ (L : Limits) (n : ℕ) (h : Store) (may : ℕ → Bool) (r : ℕ) where
   pub after-reads : (w : ℕ) → allowedAfter L n h may r w ≡ true → AllowedNext w
   unfolding allowedAfter carried
   after-reads w a =
-      let x = some-choice n (carried w) (and-right (neg (eqb w 0)) (someOf n (carried w)) a) in
+      let x = some-choice n (carried w) (and-right (neg (eqb w 0)) (someChoice n (carried w)) a) in
       let y = carried-reads w (x .0) (x .1) (x .2) in
       record {
-        value = some-value w (and-left (neg (eqb w 0)) (someOf n (carried w)) a);
+        value = some-value w (and-left (neg (eqb w 0)) (someChoice n (carried w)) a);
         speakers = x .0;
         size = y .0;
         carries = y .1;
@@ -266,16 +274,16 @@ module _ (L : Limits) (n : ℕ) (h : Store) (may : ℕ → Bool) (r : ℕ) where
       (λ (e : overlap n ≤ countOf (bears L h r w) ss).
       or-left
       (leb (overlap n) (countOf (bears L h r w) ss))
-      (divided L n h may r ss and may w)
+      (divided L n h r ss and may w)
       (le-leb (overlap n) _ e))
-      (λ (d : Divided ss × (may w ≡ true)).
+      (λ (d : Divided L n h r ss × (may w ≡ true)).
       or-right
       (leb (overlap n) (countOf (bears L h r w) ss))
-      (divided L n h may r ss and may w)
+      (divided L n h r ss and may w)
       (and-in
-      (divided L n h may r ss)
+      (divided L n h r ss)
       (may w)
-      (reads-divided ss (λ s m. let x = c .counted s m in (x .0, x .1 .said)) (d .0))
+      (reads-divided L n h r ss (λ s m. let x = c .counted s m in (x .0, x .1 .said)) (d .0))
       (d .1)))
       (c .reason)))
 
@@ -284,7 +292,7 @@ module _ (L : Limits) (n : ℕ) (h : Store) (may : ℕ → Bool) (r : ℕ) where
   reads-after w a =
       and-in
       (neg (eqb w 0))
-      (someOf n (carried w))
+      (someChoice n (carried w))
       (value-some w (a .value))
       (choice-some (carried w) (a .carries .choice) (reads-carried w (a .speakers) (a .size) (a .carries)))
 

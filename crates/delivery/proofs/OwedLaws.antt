@@ -1,14 +1,13 @@
 -- Laws of the copies that are owed. Assumes nothing.
 use Prim.Native.Nat.{ℕ, _+_}
 use mathlib.Core.Path.{_≡_, refl, ap, sym, _∙_}
-use mathlib.Core.List.{List}
-use mathlib.Core.Bool.{Bool, true, false}
+use mathlib.Core.Bool.{Bool, true}
 use mathlib.Core.Logic.{_⊎_, ⊎-elim}
 use native.Mathlib.Omega.{arith}
 use lib.Dec.{eqb}
 use lib.ListN.{length, getD, length-replicate}
 use Rattle.signer.specs.Log.{isIdentifier}
-use Rattle.signer.proofs.FromOneLaws.{nth-after, setNth-none, length-setNth, nth-set-same, nth-set-other, nth-change, set-back, nth-replicate, within-low, within-high, within-out}
+use Rattle.signer.proofs.FromOneLaws.{nth-after, length-setNth, nth-set-same, nth-set-other, nth-change, nth-replicate, within-low, within-high}
 use Rattle.delivery.specs.Tests.{_and_, _or_, neg}
 use Rattle.delivery.specs.Limits.{Limits}
 use Rattle.delivery.specs.Bus.{isBoard}
@@ -32,7 +31,7 @@ use Rattle.delivery.proofs.TestLaws.{and-assoc, and-comm}
 use Rattle.delivery.proofs.SetLaws.{set-cong, in-setOf-within, in-without}
 
 -- there is a set for each board as the speaker and each identifier
-pub record Complete (L : Limits) (o : Owed) : Type 0 where
+pub record Whole (L : Limits) (o : Owed) : Type 0 where
   pub size : length (o .speakers) ≡ L .boards
   pub each : (s : ℕ) → length (copiesOf L o s .receivers) ≡ L .identifiers
 
@@ -50,9 +49,9 @@ copies-nothing : (L : Limits) (s : ℕ) → copiesOf L (nothingOwed L) s ≡ noC
 unfolding nothingOwed copiesOf
 copies-nothing L s = nth-replicate (L .boards) s (noCopies L)
 
-pub nothing-complete : (L : Limits) → Complete L (nothingOwed L)
+pub nothing-whole : (L : Limits) → Whole L (nothingOwed L)
 unfolding nothingOwed noCopies
-nothing-complete L =
+nothing-whole L =
     record {
       size = length-replicate (L .boards) (noCopies L);
       each = λ s. ap (λ (c : Copies). length (c .receivers)) (copies-nothing L s) ∙ length-replicate (L .identifiers) 0;
@@ -70,9 +69,9 @@ module _ (L : Limits) (o : Owed) (s i m : ℕ) where
   unfolding copiesOf withReceivers withCopies
   copies-with s′ = nth-change (o .speakers) s′ s (withReceiversAt (copiesOf L o s) i m) (noCopies L)
 
-  with-complete : Complete L o → Complete L (withReceivers L o s i m)
+  with-whole : Whole L o → Whole L (withReceivers L o s i m)
   unfolding withReceivers withCopies withReceiversAt
-  with-complete w =
+  with-whole w =
       record {
         size = length-setNth (o .speakers) s (withReceiversAt (copiesOf L o s) i m) ∙ w .size;
         each = λ s′. ⊎-elim
@@ -83,7 +82,7 @@ module _ (L : Limits) (o : Owed) (s i m : ℕ) where
             (copies-with s′);
       }
 
-  with-here : Complete L o → isBoard L s ≡ true → isIdentifier (L .identifiers) i ≡ true
+  with-here : Whole L o → isBoard L s ≡ true → isIdentifier (L .identifiers) i ≡ true
       → receivers L (withReceivers L o s i m) s i ≡ m
   unfolding receivers receiversAt copiesOf withReceivers withCopies withReceiversAt
   with-here w b h =
@@ -115,32 +114,13 @@ module _ (L : Limits) (o : Owed) (s i m : ℕ) where
       ∙ ap (λ (t : ℕ). receivers L o t i′) (sym (e .0)))
       (copies-with s′)
 
-  with-nobody : length (o .speakers) ≡ L .boards → isBoard L s ≡ false → withReceivers L o s i m ≡ o
-  unfolding withReceivers withCopies
-  with-nobody n h =
-      ap
-      (λ (cs : List Copies). record { speakers = cs })
-      (setNth-none (o .speakers) s (withReceiversAt (copiesOf L o s) i m) (λ l. omega (arith, within-out (L .boards) s h l)))
-
-  with-outside : Complete L o → isIdentifier (L .identifiers) i ≡ false → withReceivers L o s i m ≡ o
-  unfolding withReceivers withCopies withReceiversAt copiesOf
-  with-outside w h =
-      ap
-      (λ (rs : List ℕ). withCopies o s (record { receivers = rs }))
-      (setNth-none
-      (copiesOf L o s .receivers)
-      i
-      m
-      (λ l. omega (arith, w .each s, within-out (L .identifiers) i h l)))
-      ∙ ap (λ (cs : List Copies). record { speakers = cs }) (set-back (o .speakers) s (noCopies L))
-
 -- after s signed under i: its set there is what the definition says, and no other changes
 module _ (L : Limits) (o : Owed) (s i sound have : ℕ) where
-  pub after-signing-complete : Complete L o → Complete L (afterSigning L o s i sound have)
+  pub after-signing-whole : Whole L o → Whole L (afterSigning L o s i sound have)
   unfolding afterSigning
-  after-signing-complete = with-complete L o s i _
+  after-signing-whole = with-whole L o s i _
 
-  pub signing-here : Complete L o → isBoard L s ≡ true → isIdentifier (L .identifiers) i ≡ true
+  pub signing-here : Whole L o → isBoard L s ≡ true → isIdentifier (L .identifiers) i ≡ true
       → receivers L (afterSigning L o s i sound have) s i
       ≡ setOf bits (λ (k : ℕ). inSet (receivers L o s i) k or lacks sound have s k)
   unfolding afterSigning
@@ -151,21 +131,13 @@ module _ (L : Limits) (o : Owed) (s i sound have : ℕ) where
   unfolding afterSigning
   signing-there = with-there L o s i _
 
-  pub signing-nobody : length (o .speakers) ≡ L .boards → isBoard L s ≡ false → afterSigning L o s i sound have ≡ o
-  unfolding afterSigning
-  signing-nobody = with-nobody L o s i _
-
-  pub signing-outside : Complete L o → isIdentifier (L .identifiers) i ≡ false → afterSigning L o s i sound have ≡ o
-  unfolding afterSigning
-  signing-outside = with-outside L o s i _
-
 -- after board j delivered what s said under i, the same
 module _ (L : Limits) (o : Owed) (j s i sound have : ℕ) where
-  pub after-delivery-complete : Complete L o → Complete L (afterDelivery L o j s i sound have)
+  pub after-delivery-whole : Whole L o → Whole L (afterDelivery L o j s i sound have)
   unfolding afterDelivery
-  after-delivery-complete = with-complete L o s i _
+  after-delivery-whole = with-whole L o s i _
 
-  pub delivery-here : Complete L o → isBoard L s ≡ true → isIdentifier (L .identifiers) i ≡ true
+  pub delivery-here : Whole L o → isBoard L s ≡ true → isIdentifier (L .identifiers) i ≡ true
       → receivers L (afterDelivery L o j s i sound have) s i
       ≡ setOf bits (λ (k : ℕ). neg (eqb k j) and (inSet (receivers L o s i) k or lacks sound have s k))
   unfolding afterDelivery
@@ -175,16 +147,6 @@ module _ (L : Limits) (o : Owed) (j s i sound have : ℕ) where
       → receivers L (afterDelivery L o j s i sound have) s′ i′ ≡ receivers L o s′ i′
   unfolding afterDelivery
   delivery-there = with-there L o s i _
-
-  pub delivery-nobody : length (o .speakers) ≡ L .boards → isBoard L s ≡ false
-      → afterDelivery L o j s i sound have ≡ o
-  unfolding afterDelivery
-  delivery-nobody = with-nobody L o s i _
-
-  pub delivery-outside : Complete L o → isIdentifier (L .identifiers) i ≡ false
-      → afterDelivery L o j s i sound have ≡ o
-  unfolding afterDelivery
-  delivery-outside = with-outside L o s i _
 
 -- the sets in these definitions, made of sets
 pub lacking-set : (s sound have : ℕ) → minus (withoutBoard sound s) have ≡ setOf bits (lacks sound have s)

@@ -17,7 +17,7 @@ use Rattle.delivery.specs.Bus.{isBoard, quorum, overlap}
 use Rattle.delivery.specs.Rounds.{identifierOf}
 use Rattle.delivery.specs.Sets.{setOf, bits}
 use Rattle.delivery.specs.Delivered.{Store, heardIn}
-use Rattle.delivery.specs.Acceptance.{says, bears, allowedAfter, allowed, opens}
+use Rattle.delivery.specs.Acceptance.{says, openingEntry, ballotEntry, bears, backs, allowedAfter, allowed, opens}
 use Rattle.delivery.specs.declared.round.Phase.the-variants.{Ballot}
 use Rattle.signer.proofs.FromOneLaws.{within-high}
 use Rattle.delivery.proofs.CountLaws.{count-cong}
@@ -25,10 +25,10 @@ use Rattle.delivery.proofs.SetLaws.{set-cong, set-beyond, set-fits}
 use Rattle.delivery.proofs.ChoosingLaws.{none}
 use Rattle.delivery.proofs.DeliveredLaws.{heard-nobody}
 use Rattle.delivery.proofs.TestLaws.{and-left, and-right, and-in, or-cases, or-left, or-right, same-test, fails}
-use Rattle.delivery.proofs.OneRoundLaws.{after-reads, openingEntry, reads-after, says-bears, says-entry, says-value, some-value, value-says, value-some, ballotEntry, bears-reads, opens-reads, reads-opens}
-use Rattle.delivery.proofs.AllRoundsLaws.{allowed-first, allowed-next, says-none}
+use Rattle.delivery.proofs.OneRoundLaws.{after-reads, reads-after, says-none, says-value, some-value, value-says, value-some, bears-reads, backs-value, backs-entry, opens-reads, reads-opens}
+use Rattle.delivery.proofs.AllRoundsLaws.{allowed-first, allowed-next}
 use Rattle.delivery.proofs.AgreementLaws.{after-was}
-use Rattle.delivery.proofs.AllowanceLaws.{Opened, backs, blank, backing, carries-counts, many-allowed, few-allowed, opened-entry}
+use Rattle.delivery.proofs.AllowanceLaws.{Opened, blank, backing, carries-counts, many-allowed, few-allowed, opened-entry}
 
 -- a number that no board can have bears nothing
 module _ (L : Limits) (es : List ℕ) (r : ℕ) where
@@ -43,10 +43,10 @@ module _ (L : Limits) (es : List ℕ) (r : ℕ) where
   -- so a search among the boards that there can be finds all of 1 to n whose ballots have an entry
   pub bearing-found : (n x : ℕ) → (x ≡ 0 → ⊥)
       → setOf (min n (L .boards)) (λ (s : ℕ). eqb (ballotEntry L (heardIn L es) r s) x)
-      ≡ setOf n (λ (s : ℕ). says x (λ (w : ℕ). bears L (heardIn L es) r w s))
+      ≡ setOf n (backs L (heardIn L es) r x)
   bearing-found n x z =
       sym
-      (set-cong n _ _ (λ s l u. says-bears L (heardIn L es) r x s z)
+      (set-cong n _ _ (λ s l u. backs-entry L (heardIn L es) r x s z)
       ∙ set-beyond
       n
       (L .boards)
@@ -55,13 +55,13 @@ module _ (L : Limits) (es : List ℕ) (r : ℕ) where
 
   -- and two such sets, joined, fit into one
   pub bearing-fits : (n x : ℕ) → L .boards ≤ bits
-      → setOf n (λ (s : ℕ). bears L (heardIn L es) r 0 s or says x (λ (w : ℕ). bears L (heardIn L es) r w s)) < 2 ^ bits
-  unfolding _or_
+      → setOf n (λ (s : ℕ). bears L (heardIn L es) r 0 s or backs L (heardIn L es) r x s) < 2 ^ bits
+  unfolding _or_ backs
   bearing-fits n x l =
       set-fits
       n
       (L .boards)
-      (λ (s : ℕ). bears L (heardIn L es) r 0 s or says x (λ (w : ℕ). bears L (heardIn L es) r w s))
+      (λ (s : ℕ). bears L (heardIn L es) r 0 s or backs L (heardIn L es) r x s)
       (λ s g. rw (bears-nobody 0 s g) (says-none x (λ (w : ℕ). bears L (heardIn L es) r w s) (λ w. bears-nobody w s g)))
       l
 
@@ -229,21 +229,18 @@ module _ (L : Limits) (n : ℕ) (h : Store) (before r x : ℕ) (o : Opened L n h
 
 -- whether the coordinator's opening counts, where `before` is what is allowed
 module _ (L : Limits) (n : ℕ) (h : Store) (before r : ℕ) where
-  abbrev sent : ℕ
-  sent = openingEntry L n h (among before) r
-
-  says-opens : says sent (opens L n h (among before) r) ≡ says sent (among before)
+  says-opens : says (openingEntry L n h r) (opens L n h (among before) r) ≡ says (openingEntry L n h r) (among before)
   says-opens =
       same-test
-      (says sent (opens L n h (among before) r))
-      (says sent (among before))
+      (says (openingEntry L n h r) (opens L n h (among before) r))
+      (says (openingEntry L n h r) (among before))
       (λ t.
-      let y = says-value sent (opens L n h (among before) r) t in
-      value-says sent (y .0) (among before) (y .1) (opens-reads L n h (among before) r (y .0) (y .2) .permitted))
+      let y = says-value (openingEntry L n h r) (opens L n h (among before) r) t in
+      value-says (openingEntry L n h r) (y .0) (among before) (y .1) (opens-reads L n h (among before) r (y .0) (y .2) .permitted))
       (λ t.
-      let y = says-value sent (among before) t in
+      let y = says-value (openingEntry L n h r) (among before) t in
       value-says
-      sent
+      (openingEntry L n h r)
       (y .0)
       (opens L n h (among before) r)
       (y .1)
@@ -261,18 +258,16 @@ module _ (L : Limits) (n : ℕ) (h : Store) (before r : ℕ) where
 module _ (L : Limits) (n : ℕ) (h : Store) (before r x b c a : ℕ) where
   pub record Counted : Type 0 where
     pub opening : x
-        ≡ (if leb 2 (sent L n h before r) and (eqb before 1 or eqb before (sent L n h before r)) then sent L n h before r else 0)
-    pub blanks : b ≡ countIn n (λ (s : ℕ). says (entryOf 0) (λ (w : ℕ). bears L h r w s))
-    pub backers : c ≡ countIn n (λ (s : ℕ). says x (λ (w : ℕ). bears L h r w s))
+        ≡ (if leb 2 (openingEntry L n h r) and (eqb before 1 or eqb before (openingEntry L n h r)) then openingEntry L n h r else 0)
+    pub blanks : b ≡ countIn n (backs L h r (entryOf 0))
+    pub backers : c ≡ countIn n (backs L h r x)
     pub left : a ≡ (if leb (quorum n) (b + min c (overlap n - 1)) then before else (if leb (quorum n) (b + c) and leb (overlap n) c then x else 0))
 
   pub counted-next : Counted → 1 ≤ n → (w : ℕ) → among a w ≡ allowedAfter L n h (among before) r w
-  unfolding backs
   counted-next k some w =
       let o : Opened L n h (among before) r x =
-      rw (k .opening, ← says-passes before (sent L n h before r), ← says-opens L n h before r) (opened-entry L n h (among before) r) in
-      let e : countIn n (λ (s : ℕ). says (entryOf 0) (λ (v : ℕ). bears L h r v s)) ≡ countIn n (bears L h r 0) =
-      count-cong n _ _ (λ s l u. says-entry 0 (λ (v : ℕ). bears L h r v s)) in
+      rw (k .opening, ← says-passes before (openingEntry L n h r), ← says-opens L n h before r) (opened-entry L n h (among before) r) in
+      let e : countIn n (backs L h r (entryOf 0)) ≡ countIn n (bears L h r 0) = count-cong n _ _ (λ s l u. backs-value L h r 0 s) in
       rw (k .left, k .blanks ∙ e, k .backers) (settled-next L n h before r x o some w)
 
 -- on a bus without boards no ballot is asked for, and every value is allowed
@@ -307,9 +302,9 @@ every-first L n h w =
     (λ m. rw allowed-first (value-some w (among-reads 1 w m .0)))
     (λ a. reads-among 1 w (some-value w (rw allowed-first at a)) (inl refl))
 
-pub next-allowed : (L : Limits) (n : ℕ) (h : Store) (a b r : ℕ) → 1 ≤ r → ((w : ℕ) → among a w ≡ allowed L n h r w)
+pub pass-next : (L : Limits) (n : ℕ) (h : Store) (a b r : ℕ) → 1 ≤ r → ((w : ℕ) → among a w ≡ allowed L n h r w)
     → ((w : ℕ) → among b w ≡ allowedAfter L n h (among a) r w) → (w : ℕ) → among b w ≡ allowed L n h (r + 1) w
-next-allowed L n h a b r l f g w =
+pass-next L n h a b r l f g w =
     g w ∙ ap (λ (may : ℕ → Bool). allowedAfter L n h may r w) (fun-ext f) ∙ sym (allowed-next L n h r w l)
 
 -- and ends with what is allowed in the last

@@ -1,6 +1,6 @@
 -- Laws of rounds, their coordinators and their identifiers. Assumes nothing.
 use Prim.Native.Nat.{ℕ, suc, _-_, _*_, _≤_, _<_}
-use mathlib.Core.Path.{_≡_, refl, sym, _∙_}
+use mathlib.Core.Path.{_≡_, refl, sym, ap, _∙_}
 use mathlib.Core.Bool.{true, false}
 use native.Mathlib.Omega.{arith}
 use native.Mathlib.Nat.{mod-lt}
@@ -53,8 +53,9 @@ pub openings-apart : (L : Limits) (r r′ : ℕ)
     → isRound L r ≡ true → isRound L r′ ≡ true → identifierOf L Opening r ≡ identifierOf L Ballot r′ → ⊥
 unfolding phaseOf
 openings-apart L r r′ h h′ e =
-    let p : 2 * r - 1 ≡ 2 * r′ = sym (identifier-at L Opening r h) ∙ e ∙ identifier-at L Ballot r′ h′ in
-    omega (arith, p, within-low (L .rounds) r h)
+    let p : Opening ≡ Ballot = identifier-apart L Opening Ballot r r′ h h′ e .0 in
+    let q : phaseOf Opening 1 ≡ phaseOf Ballot 1 = ap (λ (x : Phase). phaseOf x 1) p in
+    omega arith
 
 -- with two identifiers for each round, each of a round's is an identifier
 phase-within : (p : Phase) (r : ℕ) → 1 ≤ r → (1 ≤ phaseOf p r) × (phaseOf p r ≤ 2 * r)

@@ -145,6 +145,11 @@ in-beyond n m zero l h = refl
 in-beyond n m (suc k) l h =
     ap (λ (x : ℕ). eqb (x % 2) 1) (div-eq-of-lt (lt-of-lt-of-le l (pow-mono (le-of-suc-le-suc h))))
 
+pub in-outside : (n m k : ℕ) → m < 2 ^ n → (1 ≤ k → n < k) → inSet m k ≡ false
+unfolding inSet
+in-outside n m zero l h = refl
+in-outside n m (suc k) l h = in-beyond n m (suc k) l (h (omega arith))
+
 -- the members of a set of 1 to n are those that pass
 set-top : (n : ℕ) (p : ℕ → Bool) → inSet (setOf (suc n) p) (suc n) ≡ p (suc n)
 unfolding inSet
@@ -170,9 +175,7 @@ in-setOf-within (suc n) p k l h = go (decLe k n) (λ g. in-setOf-within n p k l 
         ap (inSet (setOf (suc n) p)) e ∙ set-top n p ∙ ap p (sym e)
 
 pub in-setOf-outside : (n : ℕ) (p : ℕ → Bool) (k : ℕ) → (1 ≤ k → n < k) → inSet (setOf n p) k ≡ false
-unfolding inSet
-in-setOf-outside n p zero h = refl
-in-setOf-outside n p (suc k) h = in-beyond n (setOf n p) (suc k) (set-lt n p) (h (omega arith))
+in-setOf-outside n p k h = in-outside n (setOf n p) k (set-lt n p) h
 
 pub in-setOf-passes : (n : ℕ) (p : ℕ → Bool) (k : ℕ) → inSet (setOf n p) k ≡ true → p k ≡ true
 in-setOf-passes n p k t =

@@ -10,7 +10,7 @@ abbrev pub isBoard : Limits → ℕ → Bool
 isBoard L k = isWithin (L .boards) k
 
 -- Of n boards (and of 0, which no bus has, all three are 0, since 0 - 1 is 0):
--- f, the most boards that are fewer than half
+-- f, the most boards that are fewer than half: so many faulty ones the published vote tolerates
 abbrev pub faults : ℕ → ℕ
 faults n = (n - 1) / 2
 

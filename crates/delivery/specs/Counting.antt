@@ -1,4 +1,5 @@
--- Counting and choosing among the numbers 1 to n.
+-- Counting and choosing among the numbers 1 to n: document 01 needs how many boards a set has ("Words and sizes"),
+-- how many ballots bear a value, and some of them by different speakers ("What a board accepts").
 use Prim.Native.Nat.{ℕ, zero, suc}
 use mathlib.Core.Bool.{Bool, true, false}
 use mathlib.Core.List.{List, [], _∷_}
@@ -30,6 +31,6 @@ everyOf p [] = true
 everyOf p (k ∷ ks) = p k and everyOf p ks
 
 -- some choice of different numbers of 1 to n passes: each is tried, with the highest number and without
-unfoldable pub someOf : ℕ → (List ℕ → Bool) → Bool
-someOf zero p = p []
-someOf (suc n) p = someOf n (λ (ks : List ℕ). p (suc n ∷ ks)) or someOf n p
+unfoldable pub someChoice : ℕ → (List ℕ → Bool) → Bool
+someChoice zero p = p []
+someChoice (suc n) p = someChoice n (λ (ks : List ℕ). p (suc n ∷ ks)) or someChoice n p

@@ -66,17 +66,6 @@ Every n d = (w : ℕ) → allowed limits n (heard limits d) 2 w ≡ neg (eqb w 0
 abbrev pub None : ℕ → Delivered → Type 0
 None n d = (w : ℕ) → allowed limits n (heard limits d) 2 w ≡ false
 
--- Letter k, among n boards: a ballot of board 2 with any value v and no opening. The ballot is there, and no
--- ballot with a value is accepted.
-abbrev pub unopened : ℕ → Delivered
-unopened v = ballot 2 v (nothingDelivered limits)
-
-abbrev pub Unopened : ℕ → Type 0
-Unopened n =
-    (v : ℕ)
-    → (heard limits (unopened v) 2 (identifierOf limits Ballot 1) ≡ entryOf v)
-    × ((s w : ℕ) → (w ≡ 0 → ⊥) → acceptsBallot limits n (heard limits (unopened v)) 1 s w ≡ false)
-
 -- the boards' ballots, board 1's first
 abbrev pub nine-blank : Delivered
 nine-blank = ballot 2 0 (ballot 1 9 opened)
@@ -93,7 +82,7 @@ nine-alone = ballot 1 9 opened
 abbrev pub nine-nine-blank : Delivered
 nine-nine-blank = ballot 3 0 (ballot 2 9 (ballot 1 9 opened))
 
--- letters e to h, of three boards, and i to k, of four
+-- letters e to h, of three boards, and i and j, of four
 abbrev pub LetterE : Type 0
 LetterE = Only 9 3 nine-blank
 
@@ -111,6 +100,17 @@ LetterI = Every 4 nine-blank-blank
 
 abbrev pub LetterJ : Type 0
 LetterJ = Only 9 4 nine-nine-blank
+
+-- letter k, among n boards: a ballot of board 2 with any value v and no opening. The ballot is there, and no
+-- ballot with a value is accepted.
+abbrev pub unopened : ℕ → Delivered
+unopened v = ballot 2 v (nothingDelivered limits)
+
+abbrev pub Unopened : ℕ → Type 0
+Unopened n =
+    (v : ℕ)
+    → (heard limits (unopened v) 2 (identifierOf limits Ballot 1) ≡ entryOf v)
+    × ((s w : ℕ) → (w ≡ 0 → ⊥) → acceptsBallot limits n (heard limits (unopened v)) 1 s w ≡ false)
 
 abbrev pub LetterK : Type 0
 LetterK = Unopened 4

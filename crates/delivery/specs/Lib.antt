@@ -1,6 +1,7 @@
 -- What a reader must believe of delivery, in the order of document 01: "Words and sizes" (Limits, Bus,
--- Rounds, Sets), "Delivery" (Delivered, Owed), "What a board accepts" (Acceptance). Tests and Counting
--- hold the notions of general use that these are written in.
+-- Rounds, Sets), "Delivery" (Delivered, Owed), "What a board accepts" (Acceptance), and letters a to c and
+-- e to k of "Bench examples" (Examples). Tests and Counting hold the notions of general use that these are
+-- written in.
 pub mod Tests
 pub mod Counting
 pub mod Limits

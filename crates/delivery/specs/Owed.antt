@@ -10,30 +10,35 @@ use Rattle.delivery.specs.Sets.{inSet, setOf, bits}
 use Rattle.delivery.specs.declared.owed.Copies.{Copies}
 use Rattle.delivery.specs.declared.owed.Owed.{Owed}
 
--- of one speaker's statements: no copy is owed; the boards to which one is owed of what it said under i;
--- and with these replaced
+-- no copy of this speaker's statements is owed
 unfoldable pub noCopies : Limits → Copies
 noCopies L = record { receivers = replicate (L .identifiers) 0 }
 
+-- the boards to which a copy of what it said under i is owed
 unfoldable pub receiversAt : Copies → ℕ → ℕ
 receiversAt c i = nth (c .receivers) i 0
 
+-- with the boards m there instead
 unfoldable pub withReceiversAt : Copies → ℕ → ℕ → Copies
 withReceiversAt c i m = record { receivers = setNth (c .receivers) i m }
 
--- the same of every speaker's
+-- nothing is owed
 unfoldable pub nothingOwed : Limits → Owed
 nothingOwed L = record { speakers = replicate (L .boards) (noCopies L) }
 
+-- the copies of the statements of s; none where s is no board
 unfoldable pub copiesOf : Limits → Owed → ℕ → Copies
 copiesOf L o s = nth (o .speakers) s (noCopies L)
 
+-- with these of s instead
 unfoldable pub withCopies : Owed → ℕ → Copies → Owed
 withCopies o s c = record { speakers = setNth (o .speakers) s c }
 
+-- the boards to which a copy of what s said under i is owed
 unfoldable pub receivers : Limits → Owed → ℕ → ℕ → ℕ
 receivers L o s i = receiversAt (copiesOf L o s) i
 
+-- with the boards m there instead
 unfoldable pub withReceivers : Limits → Owed → ℕ → ℕ → ℕ → Owed
 withReceivers L o s i m = withCopies o s (withReceiversAt (copiesOf L o s) i m)
 

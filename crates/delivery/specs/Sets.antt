@@ -15,7 +15,7 @@ unfoldable pub setOf : ℕ → (ℕ → Bool) → ℕ
 setOf zero p = 0
 setOf (suc n) p = if p (suc n) then 2 ^ n + setOf n p else setOf n p
 
--- the bits of a set; a number above them is in none
+-- how many bits a set has; a number above them is in none
 abbrev pub bits : ℕ
 bits = 16
 

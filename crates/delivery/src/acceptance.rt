@@ -5,10 +5,9 @@ ghost use Rattle.signer.specs.Choice.{if_then_else_};
 ghost use Rattle.delivery.specs.Tests.{_and_, _or_};
 ghost use Rattle.delivery.specs.Counting.{countIn};
 ghost use Rattle.delivery.specs.Limits.{limits};
-ghost use Rattle.delivery.specs.Rounds.{coordinator, identifierOf};
 ghost use Rattle.delivery.specs.Sets.{setOf};
 ghost use Rattle.delivery.specs.Delivered.{heardIn, heard};
-ghost use Rattle.delivery.specs.Acceptance.{says, bears, allowed, acceptsOpening, acceptsBallot, acceptsSome};
+ghost use Rattle.delivery.specs.Acceptance.{says, openingEntry, backs, allowed, acceptsOpening, acceptsBallot, acceptsSome};
 use crate::bus;
 use crate::delivered::Delivered;
 use crate::round::Phase;
@@ -19,22 +18,25 @@ use signer::Identifier;
 use signer::Log;
 
 // What is allowed in a round, as the pass over the rounds carries it: no value, every value, or else the
-// entry of the only value.
+// entry of the only value. 1 would be the entry of the blank, which is never allowed, so it is free for this.
 const NO_VALUE: u32 = 0;
 
 const EVERY_VALUE: u32 = 1;
 
+// The lowest entry of a value, that of 1: entry 0 says nothing, and 1 is that of the blank.
+const LOWEST_VALUE: u32 = 2;
+
 // The entry that the coordinator sent as its opening where its value is allowed, else 0.
-fn opened(before: u32, sent: u32) -> u32
-    ensures { λ r. ⌜ r ≡ (if leb 2 sent and (eqb before 1 or eqb before sent) then sent else 0) ⌝ }
+fn opened(allowance: u32, sent: u32) -> u32
+    ensures { λ r. ⌜ r ≡ (if leb 2 sent and (eqb allowance 1 or eqb allowance sent) then sent else 0) ⌝ }
 {
-    if sent < 2 {
+    if sent < LOWEST_VALUE {
         return 0;
     }
-    if before == EVERY_VALUE {
+    if allowance == EVERY_VALUE {
         return sent;
     }
-    if before == sent {
+    if allowance == sent {
         return sent;
     }
     0
@@ -54,12 +56,12 @@ fn spare(backing: u8, e: u8) -> u8
 }
 
 // What is allowed after a round with so many blank ballots and so many for the opening's value.
-fn settled(q: u8, e: u8, blank: u8, backing: u8, before: u32, opening: u32) -> u32
-    ensures { λ r. ⌜ r ≡ (if leb q (blank + min backing (e - 1)) then before else (if leb q (blank + backing) and leb e backing then opening else 0)) ⌝ }
+fn settled(q: u8, e: u8, blank: u8, backing: u8, allowance: u32, opening: u32) -> u32
+    ensures { λ r. ⌜ r ≡ (if leb q (blank + min backing (e - 1)) then allowance else (if leb q (blank + backing) and leb e backing then opening else 0)) ⌝ }
 {
     let needed = q as u16;
     if needed <= blank as u16 + spare(backing, e) as u16 {
-        return before;
+        return allowance;
     }
     if needed > blank as u16 + backing as u16 {
         return NO_VALUE;
@@ -72,6 +74,7 @@ fn settled(q: u8, e: u8, blank: u8, backing: u8, before: u32, opening: u32) -> u
 fn speakers(store: &[u32; store::PLACES], n: u8, id: Identifier, entry: u32) -> u16
     ensures { λ r. ⌜ r ≡ setOf (min n (limits .boards)) (λ (s : ℕ). eqb (heardIn limits (now (store .entry)) s (id .0)) entry) ⌝ }
 {
+    // no number above the boards that there can be has said anything
     let mut m = n;
     if n > Delivered::BOARDS {
         m = Delivered::BOARDS;
@@ -89,7 +92,7 @@ fn speakers(store: &[u32; store::PLACES], n: u8, id: Identifier, entry: u32) -> 
 
 // The boards of 1 to n whose ballot of a round has this entry; no ballot has entry 0.
 fn bearing(store: &[u32; store::PLACES], n: u8, round: Round, entry: u32) -> u16
-    ensures { λ r. ⌜ r ≡ setOf n (λ (s : ℕ). says entry (λ (w : ℕ). bears limits (heardIn limits (now (store .entry))) (round .0) w s)) ⌝ }
+    ensures { λ r. ⌜ r ≡ setOf n (backs limits (heardIn limits (now (store .entry))) (round .0) entry) ⌝ }
 {
     if entry == 0 {
         return 0;
@@ -97,16 +100,16 @@ fn bearing(store: &[u32; store::PLACES], n: u8, round: Round, entry: u32) -> u16
     speakers(store, n, round.identifier(Phase::Ballot), entry)
 }
 
-// How many these are.
-pub fn tally(store: &[u32; store::PLACES], n: u8, round: Round, entry: u32) -> u8
-    ensures { λ r. ⌜ r ≡ countIn n (λ (s : ℕ). says entry (λ (w : ℕ). bears limits (heardIn limits (now (store .entry))) (round .0) w s)) ⌝ }
+// How many boards of 1 to n have a ballot of a round with this entry, accepted or not.
+pub fn count_bearing(store: &[u32; store::PLACES], n: u8, round: Round, entry: u32) -> u8
+    ensures { λ r. ⌜ r ≡ countIn n (backs limits (heardIn limits (now (store .entry))) (round .0) entry) ⌝ }
 {
     set::count(bearing(store, n, round, entry), n)
 }
 
 // The entry of the opening that the round's coordinator sent.
 pub fn opening(store: &[u32; store::PLACES], n: u8, round: Round) -> u32
-    ensures { λ r. ⌜ r ≡ heardIn limits (now (store .entry)) (coordinator n (round .0)) (identifierOf limits Phase.Opening (round .0)) ⌝ }
+    ensures { λ r. ⌜ r ≡ openingEntry limits n (heardIn limits (now (store .entry))) (round .0) ⌝ }
 {
     store::entry(
         store,
@@ -123,7 +126,7 @@ fn allows(store: &[u32; store::PLACES], n: u8, round: Round, entry: u32) -> bool
     if last == 0 {
         return false;
     }
-    if entry < 2 {
+    if entry < LOWEST_VALUE {
         return false;
     }
     // of no boards q is 0: no ballot is asked for
@@ -137,8 +140,8 @@ fn allows(store: &[u32; store::PLACES], n: u8, round: Round, entry: u32) -> bool
     while r < last {
         let earlier = Round(r);
         let opening = opened(allowance, opening(store, n, earlier));
-        let blank = tally(store, n, earlier, Log::entry_of(Log::BLANK));
-        let backing = tally(store, n, earlier, opening);
+        let blank = count_bearing(store, n, earlier, Log::entry_of(Log::BLANK));
+        let backing = count_bearing(store, n, earlier, opening);
         allowance = settled(q, e, blank, backing, allowance, opening);
         r += 1;
     }
@@ -180,7 +183,7 @@ fn accepts_ballot(
 }
 
 // The boards of 1 to n whose accepted ballots of a round bear a value.
-pub fn ballots_for(store: &[u32; store::PLACES], n: u8, round: Round, value: u16) -> u16
+fn ballots_for(store: &[u32; store::PLACES], n: u8, round: Round, value: u16) -> u16
     ensures { λ r. ⌜ r ≡ setOf n (λ (s : ℕ). acceptsBallot limits n (heardIn limits (now (store .entry))) (round .0) s value) ⌝ }
 {
     let speakers = bearing(store, n, round, Log::entry_of(value));
@@ -207,12 +210,6 @@ pub fn ballots(store: &[u32; store::PLACES], n: u8, round: Round) -> u16
 
 // The same by what one board has delivered.
 impl Delivered {
-    pub fn opening(self, n: u8, round: Round) -> u32
-        ensures { λ r. ⌜ r ≡ heard limits self (coordinator n (round .0)) (identifierOf limits Phase.Opening (round .0)) ⌝ }
-    {
-        opening(&self.entries, n, round)
-    }
-
     // Whether a value is allowed in a round.
     pub fn allowed(self, n: u8, round: Round, value: u16) -> bool
         ensures { λ r. ⌜ r ≡ allowed limits n (heard limits self) (round .0) value ⌝ }

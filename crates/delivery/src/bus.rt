@@ -1,7 +1,7 @@
 ghost use mathlib.Core.Path.{_≡_};
 ghost use Rattle.delivery.specs.Bus.{faults, quorum, overlap};
 
-// f: the most boards that are fewer than half of n.
+// f: the most boards that are fewer than half of n; so many faulty ones the published vote tolerates.
 pub fn faults(n: u8) -> u8
     ensures { λ r. ⌜ r ≡ faults n ⌝ }
 {

@@ -98,7 +98,7 @@ impl Owed {
         self.copies(speaker).receivers(id)
     }
 
-    // With these boards in their place.
+    // With the boards in `set` owed a copy of it instead.
     fn with_receivers(self, speaker: u8, id: Identifier, set: u16) -> Owed
         ensures { λ r. ⌜ r ≡ withReceivers limits self speaker (id .0) set ⌝ }
     {

@@ -1,6 +1,6 @@
 ghost use mathlib.Core.Path.{_≡_};
 ghost use Rattle.delivery.specs.Limits.{limits};
-ghost use Rattle.delivery.specs.Rounds.{isRound, nextRound, identifierOf, coordinator};
+ghost use Rattle.delivery.specs.Rounds.{isRound, coordinator, identifierOf, nextRound};
 use signer::Identifier;
 use signer::from_one;
 
@@ -24,15 +24,18 @@ impl Round {
         from_one::within(self.0, Round::LAST)
     }
 
-    // The round after this one; the last has none, and stays.
-    pub fn next(self) -> Round
-        ensures { λ r. ⌜ r .0 ≡ nextRound limits (self .0) ⌝ }
+    // The board that opens this round, of n boards.
+    pub fn coordinator(self, n: u8) -> u8
+        ensures { λ r. ⌜ r ≡ coordinator n (self .0) ⌝ }
     {
         let r = self.0;
-        if r < Round::LAST {
-            return Round(r + 1);
+        if r == 0 {
+            return 1;
         }
-        Round(r)
+        if n == 0 {
+            return r;
+        }
+        (r - 1) % n + 1
     }
 
     // The identifier under which this round's opening or ballot is signed; 0, which is none, where
@@ -50,17 +53,14 @@ impl Round {
         }
     }
 
-    // The board that opens this round, of n boards.
-    pub fn coordinator(self, n: u8) -> u8
-        ensures { λ r. ⌜ r ≡ coordinator n (self .0) ⌝ }
+    // The round after this one; the last has none, and stays.
+    pub fn next(self) -> Round
+        ensures { λ r. ⌜ r .0 ≡ nextRound limits (self .0) ⌝ }
     {
         let r = self.0;
-        if r == 0 {
-            return 1;
+        if r < Round::LAST {
+            return Round(r + 1);
         }
-        if n == 0 {
-            return r;
-        }
-        (r - 1) % n + 1
+        Round(r)
     }
 }

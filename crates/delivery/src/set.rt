@@ -1,6 +1,7 @@
 ghost use mathlib.Core.Path.{_≡_};
 ghost use Rattle.delivery.specs.Counting.{countIn};
 ghost use Rattle.delivery.specs.Sets.{inSet, withBoard, withoutBoard, union, minus};
+use signer::from_one;
 
 // Sets of boards, each a mask: bit k - 1 stands for board k.
 
@@ -11,10 +12,7 @@ const BITS: u8 = 16;
 pub fn has(set: u16, k: u8) -> bool
     ensures { λ r. ⌜ r ≡ inSet set k ⌝ }
 {
-    if k == 0 {
-        return false;
-    }
-    if k > BITS {
+    if !from_one::within(k, BITS) {
         return false;
     }
     (set >> (k - 1)) % 2 == 1
@@ -24,10 +22,7 @@ pub fn has(set: u16, k: u8) -> bool
 pub fn with(set: u16, k: u8) -> u16
     ensures { λ r. ⌜ r ≡ withBoard set k ⌝ }
 {
-    if k == 0 {
-        return set;
-    }
-    if k > BITS {
+    if !from_one::within(k, BITS) {
         return set;
     }
     set | (1u16 << (k - 1))

@@ -158,7 +158,7 @@ fn incident() {
     ask_opening(opening(first, 1, 1, 42), 3, 1, 42);
 }
 
-// Rounds of blank ballots by four of the boards, from the given one to the last.
+// Rounds of blank ballots by four of the boards, from the given one to the one before the last.
 fn blank_rounds(d: Delivered, from: u8) -> Delivered {
     let mut next = d;
     let mut r = from;

@@ -13,14 +13,15 @@ use Rattle.bench.specs.Runs.{eventsIn}
 use Rattle.bench.specs.Setups.{freshBench}
 use Rattle.bench.specs.declared.bench.Bench.{Bench}
 use Rattle.bench.specs.declared.event.Event.{Event}
-use Rattle.bench.proofs.RunLaws.{length-events, events-next}
+use Rattle.bench.proofs.RunLaws.{events-none, length-events, events-next}
+use Rattle.schedule.specs.Files.{firstBench}
 use Rattle.schedule.specs.Prints.{PutAt}
 use Rattle.schedule.specs.Readings.{scheduleOf}
 use Rattle.schedule.specs.declared.answer.Fault.{Fault}
 use Rattle.schedule.specs.declared.answer.FileAnswer.the-variants.{Refused}
 use Rattle.schedule.specs.declared.file.Schedule.{Schedule}
 use Rattle.schedule.proofs.PrintLaws.{put-then}
-use Rattle.schedule.proofs.PlayLaws.{Filed, file-fault, begun, events-read}
+use Rattle.schedule.proofs.PlayLaws.{FileRead, file-fault, begun, events-read}
 use Rattle.fenderacai.specs.Rows.{rowSize, row}
 use Rattle.fenderacai.specs.Traces.{rowsOf, tracedFrom, traced}
 use Rattle.fenderacai.proofs.RowLaws.{length-row}
@@ -47,8 +48,9 @@ rows-next {buf} {next = next} c n k at bs h p =
 
 -- once no event is left, the buffer is as it stands
 pub rows-none : (c : Bench) (k : ℕ) (bs buf : List ℕ) (next : ℕ) → k ≡ 0 → sets buf next (rowsOf limits c (eventsIn k bs)) ≡ buf
-unfolding rowsOf eventsIn
-rows-none c k bs buf next e = rw e
+unfolding rowsOf
+rows-none c k bs buf next e =
+    ap (λ (es : List Event). sets buf next (rowsOf limits c es)) (ap (λ (m : ℕ). eventsIn m bs) e ∙ events-none bs)
 
 -- a refused file has no trace
 pub refused-traced : (L : Limits) (bs : List ℕ) (w : Fault) → scheduleOf L bs .answer ≡ Refused w → traced L bs ≡ []
@@ -56,7 +58,7 @@ unfolding tracedFrom
 refused-traced L bs w t = ap (tracedFrom L) (file-fault L bs w t)
 
 -- A file that was read: the row of its fresh bench and those of its events are its trace.
-module _ (L : Limits) (bs : List ℕ) (s : Schedule) (h : Filed L bs s) where
+module _ (L : Limits) (bs : List ℕ) (s : Schedule) (h : FileRead L bs s) where
   pub trace-played : row L 0 (freshBench L (s .n) (s .marks))
       ++ rowsOf L (freshBench L (s .n) (s .marks)) (eventsIn (s .count) (drop (s .start) bs))
       ≡ traced L bs
@@ -64,11 +66,11 @@ module _ (L : Limits) (bs : List ℕ) (s : Schedule) (h : Filed L bs s) where
   trace-played =
       ap (λ (c : Bench). row L 0 c ++ rowsOf L c (eventsIn (s .count) (drop (s .start) bs))) (begun L bs s h)
       ∙ ap
-      (λ (es : List Event). row L 0 (freshBench L (length (h .file .marks)) (h .file .marks)) ++ rowsOf L (freshBench L (length (h .file .marks)) (h .file .marks)) es)
+      (λ (es : List Event). row L 0 (firstBench L (h .file)) ++ rowsOf L (firstBench L (h .file)) es)
       (events-read L bs s h)
       ∙ sym (ap (tracedFrom L) (h .due))
 
-pub length-traced : (bs : List ℕ) (s : Schedule) → Filed limits bs s
+pub length-traced : (bs : List ℕ) (s : Schedule) → FileRead limits bs s
     → length (traced limits bs) ≡ rowSize limits + rowSize limits * s .count
 length-traced bs s h =
     let c = freshBench limits (s .n) (s .marks) in

@@ -1,6 +1,6 @@
--- A bench in words: all that document 01's "Events" has a bench hold, each number in a place of its own, so that a second
--- model can be compared with it. A row begins with an answer, and then has the bench.
-use Prim.Native.Nat.{ℕ, zero, suc, _+_, _*_}
+-- A bench in words: each number that it holds in a place of its own, so that a second model can be compared with it
+-- (document 01, condition 3). A row begins with an answer, and then has the bench.
+use Prim.Native.Nat.{ℕ, _+_, _*_}
 use mathlib.Core.List.{List, [], _∷_, _++_}
 use Rattle.delivery.specs.Limits.{Limits}
 use Rattle.delivery.specs.Owed.{receivers}
@@ -13,7 +13,7 @@ use Rattle.vote.specs.declared.position.Stage.{Stage}
 use Rattle.vote.specs.declared.position.Stage.the-variants.{Open, Vote, Count}
 use Rattle.bench.specs.Benches.{boardAt, signerAt, heardBy, signedBy}
 use Rattle.bench.specs.declared.bench.Bench.{Bench}
-use Rattle.schedule.specs.Prints.{linesTo}
+use Rattle.schedule.specs.Prints.{partsTo}
 
 -- a status and a stage by number
 unfoldable pub statusNumber : Status → ℕ
@@ -46,27 +46,38 @@ unfoldable pub boardWords : Board → ℕ → List ℕ
 boardWords b last = statusWords (b .status) ++ positionWords (b .position) ++ last ∷ []
 
 -- f 1 to f n
-unfoldable pub wordsTo : ℕ → (ℕ → ℕ) → List ℕ
-wordsTo zero f = []
-wordsTo (suc k) f = wordsTo k f ++ f (suc k) ∷ []
+abbrev pub wordsTo : ℕ → (ℕ → ℕ) → List ℕ
+wordsTo n f = partsTo n (λ k. f k ∷ [])
 
 -- a table: for each speaker a word for each identifier
 unfoldable pub tableWords : Limits → (ℕ → ℕ → ℕ) → List ℕ
-tableWords L f = linesTo (L .boards) (λ s. wordsTo (L .identifiers) (f s))
+tableWords L f = partsTo (L .boards) (λ s. wordsTo (L .identifiers) (f s))
 
 -- A row: the answer, n and the sound boards; each board; the entries that each board's signer signed; for each board
 -- those that it delivered; and the sets of boards to which copies are owed.
 unfoldable pub row : Limits → ℕ → Bench → List ℕ
 row L answer c =
     (answer ∷ c .n ∷ c .sound ∷ [])
-    ++ linesTo (L .boards) (λ k. boardWords (boardAt L c k) (signerAt L c k .last .0))
+    ++ partsTo (L .boards) (λ k. boardWords (boardAt L c k) (signerAt L c k .last .0))
     ++ tableWords L (signedBy L c)
-    ++ linesTo (L .boards) (λ k. tableWords L (heardBy L c k))
+    ++ partsTo (L .boards) (λ k. tableWords L (heardBy L c k))
     ++ tableWords L (receivers L (c .owed))
 
--- so many words it has
+-- how many words stand at the front of a row, and how many a status, a position, a board, a table and a row have
+abbrev pub frontSize : ℕ
+frontSize = 3
+
+abbrev pub statusSize : ℕ
+statusSize = 3
+
+abbrev pub positionSize : ℕ
+positionSize = 4
+
+abbrev pub boardSize : ℕ
+boardSize = statusSize + positionSize + 1
+
 abbrev pub tableSize : Limits → ℕ
 tableSize L = L .boards * L .identifiers
 
 abbrev pub rowSize : Limits → ℕ
-rowSize L = 3 + L .boards * 8 + tableSize L + L .boards * tableSize L + tableSize L
+rowSize L = frontSize + L .boards * boardSize + tableSize L + L .boards * tableSize L + tableSize L

@@ -2,14 +2,12 @@
 -- event, with its answer and the bench after it. A file that is refused has no row.
 use Prim.Native.Nat.{ℕ}
 use mathlib.Core.List.{List, [], _∷_, _++_}
-use lib.ListN.{length}
 use Rattle.delivery.specs.Limits.{Limits}
 use Rattle.bench.specs.Answers.{answerNumber}
 use Rattle.bench.specs.Effects.{stepOf}
-use Rattle.bench.specs.Setups.{freshBench}
 use Rattle.bench.specs.declared.bench.Bench.{Bench}
 use Rattle.bench.specs.declared.event.Event.{Event}
-use Rattle.schedule.specs.Files.{Reading, got, fault, File, fileDue}
+use Rattle.schedule.specs.Files.{Reading, got, fault, File, firstBench, fileDue}
 use Rattle.fenderacai.specs.Rows.{row}
 
 -- the rows of a list of events
@@ -21,7 +19,7 @@ rowsOf L c (e ∷ es) =
 -- a file's trace
 unfoldable pub tracedFrom : Limits → Reading File → List ℕ
 tracedFrom L (got f rest) =
-    let c = freshBench L (length (f .marks)) (f .marks) in row L 0 c ++ rowsOf L c (f .events)
+    let c = firstBench L f in row L 0 c ++ rowsOf L c (f .events)
 tracedFrom L (fault f) = []
 
 abbrev pub traced : Limits → List ℕ → List ℕ

@@ -1,5 +1,5 @@
-// What other languages call: a schedule file played, and what is printed of it, or every bench that it passes through in
-// words. A lent slice is passed as a pointer and a length.
+// What other languages call. Each call plays a schedule file: one writes its report, the other the state before the first
+// event and after each. A slice is passed as a pointer and a length.
 ghost use mathlib.Core.Path.{_≡_};
 ghost use lib.ListN.{length};
 ghost use Rattle.delivery.specs.Limits.{limits};

@@ -9,7 +9,7 @@ use libc::STDOUT_FILENO;
 use schedule::Report;
 use schedule::Schedule;
 
-// Room for the longest file that is not refused, and one byte more. What follows that byte cannot change the first fault.
+// Room for the longest file that is not refused, and one byte more. What follows that byte cannot change the answer.
 fn file_space() -> [u8; Schedule::LONGEST + 1]
     ensures { λ r. ⌜ longestFile limits + 1 ≡ length r ⌝ }
 {
@@ -29,6 +29,7 @@ fn main() {
     let size = io::read_full(STDIN_FILENO, &mut file);
     let mut text = report_space();
     let report = Report::write(&file[..size], &mut text);
+    // `Report::LONGEST` bytes are never too few (`Report::write`).
     if let Report::Written(length) = report {
         io::write_all(STDOUT_FILENO, &text[..length]);
     }

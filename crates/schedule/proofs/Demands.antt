@@ -8,26 +8,26 @@ use lib.ListN.{length, getD, length-append}
 use Rattle.signer.specs.FromOne.{nth}
 use Rattle.signer.proofs.FromOneLaws.{within-low, nth-index}
 use Rattle.delivery.specs.Limits.{limits}
-use Rattle.bench.specs.Setups.{freshBench}
 use Rattle.bench.specs.Runs.{after}
 use Rattle.bench.specs.Shows.{shown}
 use Rattle.bench.specs.declared.show.Shown.{Shown}
 use Rattle.bench.proofs.SetupLaws.{board-made}
-use Rattle.schedule.specs.Files.{Reading, got, fault, File, fileDue, answerOf}
+use Rattle.schedule.specs.Files.{Reading, got, fault, File, firstBench, fileDue, answerOf}
 use Rattle.schedule.specs.Layouts.{All, none, more, Holdable}
-use Rattle.schedule.specs.Prints.{linesTo, boardLine, boardLines, refusedLine, printedFrom}
+use Rattle.schedule.specs.Prints.{partsTo, boardLine, boardLines, refusedLine, printedFrom}
 use Rattle.schedule.specs.Demands.{Demand1, Demand2}
 use Rattle.schedule.proofs.FaultLaws.{file-row}
+use Rattle.schedule.proofs.ReadingLaws.{answer-fault}
 use Rattle.schedule.proofs.LayoutLaws.{file-laid, file-read}
 use Rattle.schedule.proofs.PrefixLaws.{enough-read}
 use Rattle.schedule.proofs.PrintLaws.{board-length}
 use Rattle.schedule.proofs.PlayLaws.{refused-print}
 
--- some lines are some bytes, where each is
-lines-some : (n : ℕ) (f : ℕ → List ℕ) → 1 ≤ n → ((k : ℕ) → 0 < length (f k)) → 0 < length (linesTo n f)
-unfolding linesTo
-lines-some zero f h some = absurd (omega arith)
-lines-some (suc n) f h some = simp length-append (omega (arith, some (suc n)))
+-- one part or more is one byte or more, if no part is empty
+parts-some : (n : ℕ) (f : ℕ → List ℕ) → 1 ≤ n → ((k : ℕ) → 0 < length (f k)) → 0 < length (partsTo n f)
+unfolding partsTo
+parts-some zero f h some = absurd (omega arith)
+parts-some (suc n) f h some = simp length-append (omega (arith, some (suc n)))
 
 board-some : (k : ℕ) (s : Shown) → 0 < length (boardLine k s)
 board-some k s = omega (arith, board-length k s)
@@ -36,8 +36,8 @@ board-some k s = omega (arith, board-length k s)
 print-some : (p : Reading File) → ((f : File) (rest : List ℕ) → p ≡ got f rest → Holdable limits f) → 0 < length (printedFrom limits p)
 unfolding printedFrom refusedLine
 print-some (got f rest) h =
-    let c = after limits (freshBench limits (length (f .marks)) (f .marks)) (f .events) in
-    let some : 0 < length (boardLines limits (length (f .marks)) c) = lines-some _ _ (within-low (limits .boards) _ (h f rest refl .boards)) (λ k. board-some k (shown limits c k)) in
+    let c = after limits (firstBench limits f) (f .events) in
+    let some : 0 < length (boardLines limits (length (f .marks)) c) = parts-some _ _ (within-low (limits .boards) _ (h f rest refl .boards)) (λ k. board-some k (shown limits c k)) in
     simp length-append (omega arith)
 print-some (fault w) h = omega arith
 
@@ -56,7 +56,7 @@ demand-1 =
     record {
       answered = λ bs. file-row (answerOf (fileDue limits bs));
       reported = λ bs. print-some (fileDue limits bs) (λ f rest e. file-laid limits bs f rest e .1);
-      refused = refused-print limits;
+      refused = λ bs w t. refused-print limits bs w (answer-fault (fileDue limits bs) w t);
       made =
           λ bs f rest e.
           let h = file-laid limits bs f rest e .1 in

@@ -1,7 +1,7 @@
 -- Document 01's letters a to l, and the two refused files. Assumes nothing.
 use native.Mathlib.Omega.{arith}
 use mathlib.Core.Path.{_≡_, refl, sym, ap, _∙_}
-use mathlib.Core.List.{[], _∷_}
+use mathlib.Core.List.{[], _∷_, flatMap}
 use Rattle.signer.specs.FromOne.{isWithin, nth}
 use Rattle.signer.specs.Choice.{if_then_else_}
 use Rattle.signer.specs.Examples.{letter-d}
@@ -13,9 +13,9 @@ use Rattle.bench.specs.Shows.{letterByte}
 use Rattle.bench.specs.Examples.{alone}
 use Rattle.bench.proofs.ExampleLaws as bench
 use Rattle.schedule.specs.Files.{faultNumber, next, byteDue, manyDue, markDue, busDue, File, fileDue}
-use Rattle.schedule.specs.Layouts.{each, laid, none, more, Holdable}
-use Rattle.schedule.specs.Prints.{decimalIn, decimal, linesTo, eventLine, boardLine, refusedLine, printedFrom}
-use Rattle.schedule.specs.Letters.{wholeCase, LetterL, Letters, RefusedFiles}
+use Rattle.schedule.specs.Layouts.{laid, none, more, Holdable}
+use Rattle.schedule.specs.Prints.{decimalIn, decimal, partsTo, eventLine, boardLine, refusedLine, printedFrom}
+use Rattle.schedule.specs.Examples.{wholeCase, LetterL, Letters, RefusedFiles}
 use Rattle.schedule.proofs.LayoutLaws.{file-read}
 
 -- the whole case is the bytes of one sound board and of the bench's example of a board alone
@@ -23,7 +23,7 @@ whole : File
 whole = record { marks = 0 ∷ []; events = alone }
 
 laid-whole : laid whole ≡ wholeCase
-unfolding whole laid each
+unfolding whole laid flatMap
 laid-whole = refl
 
 whole-holdable : Holdable limits whole
@@ -32,7 +32,7 @@ whole-holdable = record { boards = refl; marks = more refl none; few = omega ari
 
 -- so it prints the answers and the board that the bench's example shows
 letter-l : LetterL
-unfolding whole printedFrom linesTo eventLine boardLine decimal decimalIn nth if_then_else_ letterByte
+unfolding whole printedFrom partsTo eventLine boardLine decimal decimalIn nth if_then_else_ letterByte
 letter-l =
     ap (printedFrom limits) (ap (fileDue limits) (sym laid-whole) ∙ file-read limits whole whole-holdable)
     ∙ rw (bench.examples .letter-l, bench.examples .letter-l-shown)

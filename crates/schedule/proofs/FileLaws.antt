@@ -33,7 +33,7 @@ use Rattle.schedule.specs.declared.answer.FileAnswer.the-variants.{Taken
 use Rattle.schedule.specs.declared.bus.Bus.{Bus}
 use Rattle.schedule.specs.declared.section.Section.the-variants as section
 use Rattle.schedule.proofs.ReadingLaws.{answer-fault, next-got, next-fault}
-use Rattle.schedule.proofs.LayoutLaws.{bytes-rest, bus-laid, length-each, sectionLaid, section-laid}
+use Rattle.schedule.proofs.LayoutLaws.{bytes-rest, bus-laid, length-events-laid, sectionLaid, section-laid}
 
 -- what a slice holds is bytes
 pub bytes-of : (bs : List ℕ) → ((i : ℕ) → getD bs i 0 < 256) → Bytes bs
@@ -53,7 +53,7 @@ bus-some L [] h = absurd (omega arith)
 bus-some L (b ∷ bs) h = refl
 
 -- the first section, where it was read: its marks, and what follows them
-pub record Fronted (L : Limits) (bs : List ℕ) (b : Bus) : Type 0 where
+pub record BusRead (L : Limits) (bs : List ℕ) (b : Bus) : Type 0 where
   pub marks : List ℕ
   pub rest : List ℕ
   pub due : busDue L bs ≡ got marks rest
@@ -62,11 +62,11 @@ pub record Fronted (L : Limits) (bs : List ℕ) (b : Bus) : Type 0 where
   pub part : drop (1 + b .n) bs ≡ rest
   pub bytes : Bytes rest
 
-pub bus-taken : (L : Limits) (bs : List ℕ) (b : Bus) → Bytes bs → b ≡ busOf L bs → b .answer ≡ Taken → Fronted L bs b
+pub bus-taken : (L : Limits) (bs : List ℕ) (b : Bus) → Bytes bs → b ≡ busOf L bs → b .answer ≡ Taken → BusRead L bs b
 unfolding busFrom
 bus-taken L bs b u e t = go (busDue L bs) refl (sym (ap (λ (x : Bus). x .answer) e) ∙ t)
   where
-    go : (p : Reading (List ℕ)) → busDue L bs ≡ p → busFrom L p .answer ≡ Taken → Fronted L bs b
+    go : (p : Reading (List ℕ)) → busDue L bs ≡ p → busFrom L p .answer ≡ Taken → BusRead L bs b
     go (fault w) g a = let z : _≡_ {A = ℕ} 0 1 = cc in absurd (omega arith)
     go (got ms cs) g a =
         let whole : bs ≡ length ms ∷ ms ++ cs = bus-laid L bs ms cs g .0 u in
@@ -93,18 +93,18 @@ bus-refused L bs w t = answer-fault (busDue L bs) w (sym (bus-answer (busDue L b
     bus-answer (fault v) = refl
 
 -- the second, where it was read: its events, and what follows them
-pub record Sectioned (bs : List ℕ) (k : ℕ) : Type 0 where
+pub record SectionRead (bs : List ℕ) (k : ℕ) : Type 0 where
   pub events : List Event
   pub rest : List ℕ
   pub due : sectionDue bs ≡ got events rest
   pub count : length events ≡ k
   pub size : length bs ≡ countBytes + eventBytes * k + length rest
 
-pub section-taken : (bs : List ℕ) (k : ℕ) → Bytes bs → sectionOf bs ≡ section.Events k → Sectioned bs k
+pub section-taken : (bs : List ℕ) (k : ℕ) → Bytes bs → sectionOf bs ≡ section.Events k → SectionRead bs k
 unfolding sectionFrom
 section-taken bs k u t = go (sectionDue bs) refl t
   where
-    go : (p : Reading (List Event)) → sectionDue bs ≡ p → sectionFrom p ≡ section.Events k → Sectioned bs k
+    go : (p : Reading (List Event)) → sectionDue bs ≡ p → sectionFrom p ≡ section.Events k → SectionRead bs k
     go (fault w) g a = let z : _≡_ {A = ℕ} 0 1 = cc in absurd (omega arith)
     go (got es cs) g a =
         let whole : bs ≡ sectionLaid es ++ cs = section-laid bs es cs g .0 u in
@@ -114,7 +114,7 @@ section-taken bs k u t = go (sectionDue bs) refl t
           rest = cs;
           due = g;
           count = count;
-          size = omega (arith, ap length whole, length-append (sectionLaid es) cs, length-each es);
+          size = omega (arith, ap length whole, length-append (sectionLaid es) cs, length-events-laid es);
         }
 
 pub section-refused : (bs : List ℕ) (w : Fault) → sectionOf bs ≡ section.Refused w → sectionDue bs ≡ fault w

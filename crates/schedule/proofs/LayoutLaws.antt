@@ -5,7 +5,7 @@ use native.Mathlib.Omega.{arith}
 use borrow.Author.Tests.{leb-true, le-leb}
 use mathlib.Core.Path.{_≡_, refl, sym, ap, subst, _∙_}
 use mathlib.Core.Bool.{Bool, true, false, true≢false}
-use mathlib.Core.List.{List, [], _∷_, _++_, append-assoc, append-nil}
+use mathlib.Core.List.{List, [], _∷_, _++_, flatMap, append-assoc, append-nil}
 use mathlib.Core.Logic.{_⊎_, ⊎-elim}
 use lib.Dec.{leb}
 use lib.ListN.{length, drop}
@@ -35,7 +35,7 @@ use Rattle.schedule.specs.Files.{
   File,
   fileDue,
 }
-use Rattle.schedule.specs.Layouts.{twoBytes, eventLaid, each, laid, All, none, more, Bytes, Holdable}
+use Rattle.schedule.specs.Layouts.{twoBytes, eventLaid, laid, All, none, more, Bytes, Holdable}
 use Rattle.schedule.specs.declared.answer.Fault.{Fault}
 use Rattle.schedule.specs.declared.answer.Fault.the-variants.{EndsEarly, NoBus, NoMark, TooMany, LeftOver}
 use Rattle.schedule.proofs.ReadingLaws.{got-no-fault, got-rest, got-value, next-got, Went, went, stopped, next-went}
@@ -132,18 +132,18 @@ event-undoes =
 -- so many of a thing
 module _ {A : Type 0} (p : List ℕ → Reading A) (q : A → List ℕ) (Ok : A → Type 0) (u : Undoes p q Ok) where
   many-laid : (k : ℕ) (bs : List ℕ) (xs : List A) (rest : List ℕ) → manyDue p k bs ≡ got xs rest
-      → (Bytes bs → bs ≡ each q xs ++ rest) × (length xs ≡ k) × All Ok xs
-  unfolding manyDue each
+      → (Bytes bs → bs ≡ flatMap q xs ++ rest) × (length xs ≡ k) × All Ok xs
+  unfolding manyDue flatMap
   many-laid zero bs xs rest e =
       subst
-      (λ (ys : List A). (Bytes bs → bs ≡ each q ys ++ rest) × (length ys ≡ 0) × All Ok ys)
+      (λ (ys : List A). (Bytes bs → bs ≡ flatMap q ys ++ rest) × (length ys ≡ 0) × All Ok ys)
       (got-value [] xs bs rest e)
       (λ b. got-rest [] xs bs rest e, refl, none)
   many-laid (suc k) bs xs rest e = first (next-went _ (p bs) (got xs rest) e) (λ cs ys g. many-laid k cs ys rest g)
     where
       first : Went (λ (x : A) (cs : List ℕ). next (manyDue p k cs) (λ ys ds. got (x ∷ ys) ds)) (p bs) (got xs rest)
-          → ((cs : List ℕ) (ys : List A) → manyDue p k cs ≡ got ys rest → (Bytes cs → cs ≡ each q ys ++ rest) × (length ys ≡ k) × All Ok ys)
-          → (Bytes bs → bs ≡ each q xs ++ rest) × (length xs ≡ suc k) × All Ok xs
+          → ((cs : List ℕ) (ys : List A) → manyDue p k cs ≡ got ys rest → (Bytes cs → cs ≡ flatMap q ys ++ rest) × (length ys ≡ k) × All Ok ys)
+          → (Bytes bs → bs ≡ flatMap q xs ++ rest) × (length xs ≡ suc k) × All Ok xs
       first (stopped w e g) ih = absurd (got-no-fault xs rest w g)
       first (went x cs e g) ih = others (next-went _ (manyDue p k cs) (got xs rest) g)
         where
@@ -151,34 +151,34 @@ module _ {A : Type 0} (p : List ℕ → Reading A) (q : A → List ℕ) (Ok : A 
           one = u .was-laid bs x cs e
 
           others : Went (λ (ys : List A) (ds : List ℕ). got (x ∷ ys) ds) (manyDue p k cs) (got xs rest)
-              → (Bytes bs → bs ≡ each q xs ++ rest) × (length xs ≡ suc k) × All Ok xs
+              → (Bytes bs → bs ≡ flatMap q xs ++ rest) × (length xs ≡ suc k) × All Ok xs
           others (stopped w e g) = absurd (got-no-fault xs rest w g)
           others (went ys ds e g) =
               let all = ih cs ys (e ∙ ap (λ (es : List ℕ). got ys es) (got-rest (x ∷ ys) xs ds rest g)) in
               subst
-              (λ (zs : List A). (Bytes bs → bs ≡ each q zs ++ rest) × (length zs ≡ suc k) × All Ok zs)
+              (λ (zs : List A). (Bytes bs → bs ≡ flatMap q zs ++ rest) × (length zs ≡ suc k) × All Ok zs)
               (got-value (x ∷ ys) xs ds rest g)
-              (λ b. one .0 b ∙ ap (λ (es : List ℕ). q x ++ es) (all .0 (bytes-rest (q x) cs (subst Bytes (one .0 b) b))) ∙ sym (append-assoc (q x) (each q ys) rest), ap suc (all .1), more (one .1) (all .2))
+              (λ b. one .0 b ∙ ap (λ (es : List ℕ). q x ++ es) (all .0 (bytes-rest (q x) cs (subst Bytes (one .0 b) b))) ∙ sym (append-assoc (q x) (flatMap q ys) rest), ap suc (all .1), more (one .1) (all .2))
 
-  many-read : (xs : List A) (rest : List ℕ) → All Ok xs → manyDue p (length xs) (each q xs ++ rest) ≡ got xs rest
-  unfolding manyDue each
+  many-read : (xs : List A) (rest : List ℕ) → All Ok xs → manyDue p (length xs) (flatMap q xs ++ rest) ≡ got xs rest
+  unfolding manyDue flatMap
   many-read [] rest a = refl
   many-read (x ∷ xs) rest (more o a) =
-      ap (λ (bs : List ℕ). manyDue p (suc (length xs)) bs) (append-assoc (q x) (each q xs) rest)
-      ∙ next-got _ _ x (each q xs ++ rest) (u .is-read x (each q xs ++ rest) o)
+      ap (λ (bs : List ℕ). manyDue p (suc (length xs)) bs) (append-assoc (q x) (flatMap q xs) rest)
+      ∙ next-got _ _ x (flatMap q xs ++ rest) (u .is-read x (flatMap q xs ++ rest) o)
       ∙ next-got _ _ xs rest (many-read xs rest a)
 
 -- an event is laid in so many bytes
-pub length-each : (es : List Event) → length (each eventLaid es) ≡ eventBytes * length es
-unfolding each
-length-each [] = refl
-length-each (e ∷ es) = omega (arith, length-each es)
+pub length-events-laid : (es : List Event) → length (flatMap eventLaid es) ≡ eventBytes * length es
+unfolding flatMap
+length-events-laid [] = refl
+length-events-laid (e ∷ es) = omega (arith, length-events-laid es)
 
 -- the marks are their own bytes
-each-own : (ms : List ℕ) → each (λ (m : ℕ). m ∷ []) ms ≡ ms
-unfolding each
-each-own [] = refl
-each-own (m ∷ ms) = ap (λ (xs : List ℕ). m ∷ xs) (each-own ms)
+flatMap-own : (ms : List ℕ) → flatMap (λ (m : ℕ). m ∷ []) ms ≡ ms
+unfolding flatMap
+flatMap-own [] = refl
+flatMap-own (m ∷ ms) = ap (λ (xs : List ℕ). m ∷ xs) (flatMap-own ms)
 
 -- n and the marks
 pub bus-laid : (L : Limits) (bs ms rest : List ℕ) → busDue L bs ≡ got ms rest
@@ -195,7 +195,7 @@ bus-laid L bs ms rest e = first (next-went _ (byteDue bs) (got ms rest) e)
         let m = many-laid markDue _ _ mark-undoes n cs ms rest (t .1) in (
           λ b. whole
               ∙ ap (λ (x : ℕ). x ∷ cs) (sym (m .1))
-              ∙ ap (λ (ds : List ℕ). length ms ∷ ds) (m .0 (bytes-rest (n ∷ []) cs (subst Bytes whole b)) ∙ ap (λ (ds : List ℕ). ds ++ rest) (each-own ms)),
+              ∙ ap (λ (ds : List ℕ). length ms ∷ ds) (m .0 (bytes-rest (n ∷ []) cs (subst Bytes whole b)) ∙ ap (λ (ds : List ℕ). ds ++ rest) (flatMap-own ms)),
           ap (isBoard L) (m .1) ∙ t .0,
           m .2,
         )
@@ -206,7 +206,7 @@ unfolding busDue
 bus-read L ms rest t a =
     next-got _ _ (length ms) (ms ++ rest) (byte-read (length ms) (ms ++ rest))
     ∙ if-true (isBoard L (length ms)) _ _ t
-    ∙ ap (λ (ds : List ℕ). manyDue markDue (length ms) (ds ++ rest)) (sym (each-own ms))
+    ∙ ap (λ (ds : List ℕ). manyDue markDue (length ms) (ds ++ rest)) (sym (flatMap-own ms))
     ∙ many-read markDue _ _ mark-undoes ms rest a
 
 -- the count
@@ -256,7 +256,7 @@ count-read m rest h =
 
 -- the count and the events
 abbrev pub sectionLaid : List Event → List ℕ
-sectionLaid es = twoBytes (length es) ++ each eventLaid es
+sectionLaid es = twoBytes (length es) ++ flatMap eventLaid es
 
 all-events : (es : List Event) → All (λ (e : Event). Unit {0}) es
 all-events [] = none
@@ -277,14 +277,14 @@ section-laid bs es rest e = first (next-went _ (countDue bs) (got es rest) e)
           omega (arith, count-went bs k cs e .few, m .1),
         )
 
-pub each-read : (es : List Event) (rest : List ℕ) → manyDue eventDue (length es) (each eventLaid es ++ rest) ≡ got es rest
-each-read es rest = many-read eventDue _ _ event-undoes es rest (all-events es)
+pub events-flat-read : (es : List Event) (rest : List ℕ) → manyDue eventDue (length es) (flatMap eventLaid es ++ rest) ≡ got es rest
+events-flat-read es rest = many-read eventDue _ _ event-undoes es rest (all-events es)
 
 section-read : (es : List Event) (rest : List ℕ) → length es ≤ mostEvents → sectionDue (sectionLaid es ++ rest) ≡ got es rest
 unfolding sectionDue
 section-read es rest h =
-    next-got _ _ (length es) (each eventLaid es ++ rest) (count-read (length es) (each eventLaid es ++ rest) h)
-    ∙ each-read es rest
+    next-got _ _ (length es) (flatMap eventLaid es ++ rest) (count-read (length es) (flatMap eventLaid es ++ rest) h)
+    ∙ events-flat-read es rest
 
 -- and a whole file
 end-went : (x : File) (bs : List ℕ) (y : File) (rest : List ℕ) → nothingLeft x bs ≡ got y rest
@@ -302,7 +302,7 @@ unfolding fileDue laid
 file-laid L bs f rest e = first (next-went _ (busDue L bs) (got f rest) e)
   where
     first : Went (λ (ms cs : List ℕ). next (sectionDue cs) (λ es ds. nothingLeft (file ms es) ds)) (busDue L bs) (got f rest)
-        → (Bytes bs → bs ≡ length (f .marks) ∷ f .marks ++ twoBytes (length (f .events)) ++ each eventLaid (f .events)) × Holdable L f
+        → (Bytes bs → bs ≡ length (f .marks) ∷ f .marks ++ twoBytes (length (f .events)) ++ flatMap eventLaid (f .events)) × Holdable L f
     first (stopped w e g) = absurd (got-no-fault f rest w g)
     first (went ms cs e g) = second (next-went _ (sectionDue cs) (got f rest) g)
       where
@@ -310,17 +310,17 @@ file-laid L bs f rest e = first (next-went _ (busDue L bs) (got f rest) e)
         bus = bus-laid L bs ms cs e
 
         second : Went (λ (es : List Event) (ds : List ℕ). nothingLeft (file ms es) ds) (sectionDue cs) (got f rest)
-            → (Bytes bs → bs ≡ length (f .marks) ∷ f .marks ++ twoBytes (length (f .events)) ++ each eventLaid (f .events)) × Holdable L f
+            → (Bytes bs → bs ≡ length (f .marks) ∷ f .marks ++ twoBytes (length (f .events)) ++ flatMap eventLaid (f .events)) × Holdable L f
         second (stopped w e g) = absurd (got-no-fault f rest w g)
         second (went es ds e g) =
             let end = end-went (file ms es) ds f rest g in
             let s = section-laid cs es ds e in
             subst
-            (λ (h : File). (Bytes bs → bs ≡ length (h .marks) ∷ h .marks ++ twoBytes (length (h .events)) ++ each eventLaid (h .events)) × Holdable L h)
+            (λ (h : File). (Bytes bs → bs ≡ length (h .marks) ∷ h .marks ++ twoBytes (length (h .events)) ++ flatMap eventLaid (h .events)) × Holdable L h)
             (end .1) (
               λ b. bus .0 b
                   ∙ ap (λ (xs : List ℕ). length ms ∷ ms ++ xs) (s .0 (bytes-rest (length ms ∷ ms) cs (subst Bytes (bus .0 b) b)) ∙ ap (λ (xs : List ℕ). sectionLaid es ++ xs) (end .0) ∙ append-nil (sectionLaid es))
-                  ∙ ap (λ (xs : List ℕ). length ms ∷ xs) (sym (append-assoc ms (twoBytes (length es)) (each eventLaid es))),
+                  ∙ ap (λ (xs : List ℕ). length ms ∷ xs) (sym (append-assoc ms (twoBytes (length es)) (flatMap eventLaid es))),
               record { boards = bus .1; marks = bus .2; few = s .1 },
             )
 
@@ -329,6 +329,6 @@ unfolding fileDue laid nothingLeft
 file-read L f h =
     ap
     (λ (xs : List ℕ). fileDue L (length (f .marks) ∷ xs))
-    (append-assoc (f .marks) (twoBytes (length (f .events))) (each eventLaid (f .events)))
+    (append-assoc (f .marks) (twoBytes (length (f .events))) (flatMap eventLaid (f .events)))
     ∙ next-got _ _ (f .marks) (sectionLaid (f .events)) (bus-read L (f .marks) (sectionLaid (f .events)) (h .boards) (h .marks))
     ∙ next-got _ _ (f .events) [] (ap sectionDue (sym (append-nil (sectionLaid (f .events)))) ∙ section-read (f .events) [] (h .few))

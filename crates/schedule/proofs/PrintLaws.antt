@@ -1,5 +1,5 @@
 -- Laws of what is printed: texts put one after another, the digits of a number, and how long the lines are. Assumes nothing.
-use Prim.Native.Nat.{ℕ, zero, suc, _+_, _/_, _%_, _^_, _≤_, _<_}
+use Prim.Native.Nat.{ℕ, zero, suc, _+_, _*_, _/_, _%_, _^_, _≤_, _<_}
 use native.Mathlib.Nat.{zero-add, add-zero, pow-suc}
 use native.Mathlib.Numerals.{add-one}
 use native.Mathlib.Omega.{arith}
@@ -17,7 +17,7 @@ use Rattle.delivery.specs.Limits.{limits}
 use Rattle.bench.specs.declared.show.Shown.{Shown}
 use Rattle.bench.proofs.RunLaws.{sets-written}
 use Rattle.schedule.specs.Files.{mostEvents, faultNumber}
-use Rattle.schedule.specs.Prints.{digit, decimalIn, decimal, linesTo, eventLine, boardLine, refusedLine, reportFrom, bufferFrom, PutAt, eventLineBytes, boardLineBytes, longestPrint}
+use Rattle.schedule.specs.Prints.{digit, decimalIn, decimal, partsTo, eventLine, boardLine, refusedLine, reportFrom, bufferFrom, PutAt, eventLineBytes, boardLineBytes, longestPrint}
 use Rattle.schedule.specs.declared.answer.Fault.{Fault}
 use Rattle.schedule.specs.declared.report.Report.{Report}
 use Rattle.schedule.specs.declared.report.Report.the-variants.{Written, Short}
@@ -119,28 +119,35 @@ board-within k s h f g =
       digits-within 4 (s .value) (omega arith),
     )
 
--- a refused file's line is within the longest print
+-- a refused file's line is within the longest report
 pub refused-within : (f : Fault) → length (refusedLine f) ≤ longestPrint limits
 unfolding refusedLine
 refused-within f = simp length-append (omega (arith, digits-within 0 (faultNumber f) (omega (arith, fault-row f .1))))
 
--- before any line nothing is put, and after k lines one line more makes k + 1
-pub lines-none : {buf : List ℕ} {at : ℕ} (f : ℕ → List ℕ) → PutAt (linesTo 0 f) buf at buf at
-unfolding linesTo
-lines-none f = put-none
+-- before any part nothing is put, and after k parts one part more makes k + 1
+pub parts-none : {buf : List ℕ} {at : ℕ} (f : ℕ → List ℕ) → PutAt (partsTo 0 f) buf at buf at
+unfolding partsTo
+parts-none f = put-none
 
-pub lines-next : {buf buf′ buf″ : List ℕ} {at r r′ : ℕ} (f : ℕ → List ℕ) (k : ℕ)
-    → PutAt (linesTo k f) buf at buf′ r → PutAt (f (k + 1)) buf′ r buf″ r′ → PutAt (linesTo (k + 1) f) buf at buf″ r′
-unfolding linesTo
-lines-next f k p q = rw (add-one k) (put-then p (rw (add-one k) at q))
+pub parts-next : {buf buf′ buf″ : List ℕ} {at r r′ : ℕ} (f : ℕ → List ℕ) (k : ℕ)
+    → PutAt (partsTo k f) buf at buf′ r → PutAt (f (k + 1)) buf′ r buf″ r′ → PutAt (partsTo (k + 1) f) buf at buf″ r′
+unfolding partsTo
+parts-next f k p q = rw (add-one k) (put-then p (rw (add-one k) at q))
 
--- lines that are alike make one print
-pub lines-same : (n : ℕ) (f g : ℕ → List ℕ) → ((k : ℕ) → 1 ≤ k → k ≤ n → f k ≡ g k) → linesTo n f ≡ linesTo n g
-unfolding linesTo
-lines-same zero f g e = refl
-lines-same (suc n) f g e =
-    ap (λ (xs : List ℕ). xs ++ f (suc n)) (lines-same n f g (λ k l h. e k l (omega arith)))
-    ∙ ap (λ (xs : List ℕ). linesTo n g ++ xs) (e (suc n) (omega arith) (omega arith))
+-- parts that are alike, one after another, are one text
+pub parts-same : (n : ℕ) (f g : ℕ → List ℕ) → ((k : ℕ) → 1 ≤ k → k ≤ n → f k ≡ g k) → partsTo n f ≡ partsTo n g
+unfolding partsTo
+parts-same zero f g e = refl
+parts-same (suc n) f g e =
+    ap (λ (xs : List ℕ). xs ++ f (suc n)) (parts-same n f g (λ k l h. e k l (omega arith)))
+    ∙ ap (λ (xs : List ℕ). partsTo n g ++ xs) (e (suc n) (omega arith) (omega arith))
+
+-- n parts of one size have n times that size
+pub length-parts : (size n : ℕ) (f : ℕ → List ℕ) → ((k : ℕ) → length (f k) ≡ size) → length (partsTo n f) ≡ n * size
+unfolding partsTo
+length-parts size zero f e = omega arith
+length-parts size (suc n) f e =
+    length-append (partsTo n f) (f (suc n)) ∙ omega (arith, length-parts size n f e, e (suc n))
 
 -- where the buffer is too short, it stays; where it is not, the text is written at its start
 pub buffer-short : (text buf : List ℕ) → length buf < length text → buf ≡ bufferFrom text buf

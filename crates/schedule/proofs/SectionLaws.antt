@@ -42,7 +42,7 @@ use Rattle.schedule.specs.declared.section.Section.the-variants as secti
 use Rattle.schedule.proofs.ReadingLaws.{next-got, next-fault, next-next, next-same, many-goes, many-stops}
 use Rattle.schedule.proofs.LayoutLaws.{mark-undoes}
 
--- of n marks, those that are left after the first k: reading these, after those
+-- reading the marks after the first k of n, with those k put in front
 abbrev pub marksLeft : ℕ → ℕ → List ℕ → Reading (List ℕ)
 marksLeft n k bs = next (marksDue (n - k) (drop k bs)) (λ ms rest. got (take k bs ++ ms) rest)
 

@@ -8,8 +8,9 @@ use Rattle.signer.specs.Choice.{if_then_else_}
 use Rattle.delivery.specs.Limits.{Limits}
 use Rattle.delivery.specs.Bus.{isBoard}
 use Rattle.bench.specs.Events.{highFirst, eventBytes, eventFrom}
-use Rattle.bench.specs.Setups.{isMark}
+use Rattle.bench.specs.Setups.{isMark, freshBench}
 use Rattle.bench.specs.Answers.{freshNumber}
+use Rattle.bench.specs.declared.bench.Bench.{Bench}
 use Rattle.bench.specs.declared.event.Event.{Event}
 use Rattle.bench.specs.declared.answer.FreshAnswer.the-variants as fresh
 use Rattle.schedule.specs.declared.answer.Fault.{Fault}
@@ -97,6 +98,10 @@ pub record File : Type 0 where
   pub marks : List ℕ
   pub events : List Event
 
+-- the fresh bench that its events begin on
+abbrev pub firstBench : Limits → File → Bench
+firstBench L f = freshBench L (length (f .marks)) (f .marks)
+
 unfoldable pub fileDue : Limits → List ℕ → Reading File
 fileDue L bs =
     next
@@ -108,6 +113,6 @@ unfoldable pub answerOf : {A : Type 0} → Reading A → FileAnswer
 answerOf (got x rest) = Taken
 answerOf (fault f) = Refused f
 
--- a file that is read can have so many bytes, and no more
+-- the bytes of the longest file that is not refused
 abbrev pub longestFile : Limits → ℕ
 longestFile L = 1 + L .boards + countBytes + eventBytes * mostEvents

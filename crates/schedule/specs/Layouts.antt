@@ -2,7 +2,7 @@
 use Prim.Native.Nat.{ℕ, _/_, _%_, _≤_, _<_}
 use mathlib.Core.Path.{_≡_}
 use mathlib.Core.Bool.{true}
-use mathlib.Core.List.{List, [], _∷_, _++_}
+use mathlib.Core.List.{List, [], _∷_, _++_, flatMap}
 use lib.ListN.{length}
 use Rattle.delivery.specs.Limits.{Limits}
 use Rattle.delivery.specs.Bus.{isBoard}
@@ -17,16 +17,11 @@ twoBytes m = m / 256 ∷ m % 256 ∷ []
 abbrev pub eventLaid : Event → List ℕ
 eventLaid e = e .kind ∷ e .a ∷ e .b ∷ e .id ∷ twoBytes (e .value)
 
--- the bytes of some things, one after another
-unfoldable pub each : {A : Type 0} → (A → List ℕ) → List A → List ℕ
-each q [] = []
-each q (x ∷ xs) = q x ++ each q xs
-
 -- the bytes of a schedule: n, the marks, the count, the events
 unfoldable pub laid : File → List ℕ
-laid f = length (f .marks) ∷ f .marks ++ twoBytes (length (f .events)) ++ each eventLaid (f .events)
+laid f = length (f .marks) ∷ f .marks ++ twoBytes (length (f .events)) ++ flatMap eventLaid (f .events)
 
--- all of a list are so; bytes are below 256
+-- every element of a list has a property; bytes are numbers below 256
 pub data All {A : Type 0} (P : A → Type 0) : List A → Type 0 where
   none : All P []
   more : {x : A} {xs : List A} → P x → All P xs → All P (x ∷ xs)

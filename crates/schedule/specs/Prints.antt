@@ -8,18 +8,17 @@ use mathlib.Core.Path.{_≡_}
 use Rattle.signer.specs.FromOne.{nth}
 use Rattle.signer.specs.Choice.{if_then_else_}
 use Rattle.delivery.specs.Limits.{Limits}
-use Rattle.bench.specs.Setups.{freshBench}
 use Rattle.bench.specs.Runs.{after, answersTo, written}
 use Rattle.bench.specs.Shows.{letterByte, shown}
 use Rattle.bench.specs.declared.bench.Bench.{Bench}
 use Rattle.bench.specs.declared.show.Shown.{Shown}
-use Rattle.schedule.specs.Files.{faultNumber, mostEvents, Reading, got, fault, File, fileDue}
+use Rattle.schedule.specs.Files.{faultNumber, mostEvents, Reading, got, fault, File, firstBench, fileDue}
 use Rattle.schedule.specs.declared.answer.Fault.{Fault}
 use Rattle.schedule.specs.declared.report.Report.{Report}
 use Rattle.schedule.specs.declared.report.Report.the-variants.{Written, Short}
 
 -- A number in decimal, with no zero in front: below ten it is one digit, and from there on the decimal of its tenth part
--- and its last digit. It is written in at most so many digits, and no number has more than it counts, and one.
+-- and its last digit. `decimalIn` takes the most digits to write; m + 1 are always enough.
 abbrev pub digit : ℕ → ℕ
 digit d = 48 + d
 
@@ -42,10 +41,10 @@ line [] = lineEnd ∷ []
 line (w ∷ []) = w ++ lineEnd ∷ []
 line (w ∷ x ∷ ws) = w ++ space ∷ line (x ∷ ws)
 
--- lines 1 to n, one after another
-unfoldable pub linesTo : ℕ → (ℕ → List ℕ) → List ℕ
-linesTo zero f = []
-linesTo (suc k) f = linesTo k f ++ f (suc k)
+-- parts 1 to n, one after another
+unfoldable pub partsTo : ℕ → (ℕ → List ℕ) → List ℕ
+partsTo zero f = []
+partsTo (suc k) f = partsTo k f ++ f (suc k)
 
 -- an event's line: its number, and its answer
 unfoldable pub eventLine : ℕ → ℕ → List ℕ
@@ -58,10 +57,10 @@ boardLine k s =
 
 -- the lines of so many events, by their answers, and of so many boards
 abbrev pub eventLines : ℕ → List ℕ → List ℕ
-eventLines count answers = linesTo count (λ k. eventLine k (nth answers k 0))
+eventLines count answers = partsTo count (λ k. eventLine k (nth answers k 0))
 
 abbrev pub boardLines : Limits → ℕ → Bench → List ℕ
-boardLines L n c = linesTo n (λ k. boardLine k (shown L c k))
+boardLines L n c = partsTo n (λ k. boardLine k (shown L c k))
 
 -- the word `refused`
 abbrev pub refusedWord : List ℕ
@@ -70,11 +69,11 @@ refusedWord = 114 ∷ 101 ∷ 102 ∷ 117 ∷ 115 ∷ 101 ∷ 100 ∷ []
 unfoldable pub refusedLine : Fault → List ℕ
 refusedLine f = line (refusedWord ∷ decimal (faultNumber f) ∷ [])
 
--- a file's whole print: a line per event and a line per board, after its events were played from the fresh bench of its
+-- a file's whole report: a line per event and a line per board, after its events were played from the fresh bench of its
 -- marks; a refused file's only line
 unfoldable pub printedFrom : Limits → Reading File → List ℕ
 printedFrom L (got f rest) =
-    let c = freshBench L (length (f .marks)) (f .marks) in
+    let c = firstBench L f in
     eventLines (length (f .events)) (answersTo L c (f .events))
     ++ boardLines L (length (f .marks)) (after L c (f .events))
 printedFrom L (fault f) = refusedLine f

@@ -25,7 +25,7 @@ impl Schedule {
     pub const LONGEST: usize = 1
         + Bench::BOARDS as usize
         + Section::COUNT_BYTES
-        + Section::MOST as usize * Event::BYTES;
+        + Section::MOST_EVENTS as usize * Event::BYTES;
 
     fn refused(fault: Fault) -> Schedule
         ensures { λ r. ⌜ r ≡ record { n = 0; marks = padded limits []; count = 0; start = 0; answer = Refused fault } ⌝ }

@@ -23,14 +23,14 @@ pub enum Report {
 
 impl Report {
     // The most bytes of an event's line: four digits, a space, three digits, the line end.
-    const EVENT_LINE: usize = 9;
+    const EVENT_LINE_BYTES: usize = 9;
 
     // The most bytes of a board's line: a digit, the letter, three digits and five, three spaces, the line end.
-    const BOARD_LINE: usize = 14;
+    const BOARD_LINE_BYTES: usize = 14;
 
     // A buffer of so many bytes has room for the report of any file.
-    pub const LONGEST: usize = Section::MOST as usize * Report::EVENT_LINE
-        + Bench::BOARDS as usize * Report::BOARD_LINE;
+    pub const LONGEST: usize = Section::MOST_EVENTS as usize * Report::EVENT_LINE_BYTES
+        + Bench::BOARDS as usize * Report::BOARD_LINE_BYTES;
 }
 
 // The lines of the events.
@@ -73,10 +73,10 @@ fn lines(out: &mut [u8], count: u16, answers: &[u8], n: u8, bench: Bench) -> usi
 }
 
 // Room for the answers to as many events as there can be.
-fn space() -> [u8; Section::MOST as usize]
+fn answer_space() -> [u8; Section::MOST_EVENTS as usize]
     ensures { λ r. ⌜ mostEvents ≡ length r ⌝ }
 {
-    [0; Section::MOST as usize]
+    [0; Section::MOST_EVENTS as usize]
 }
 
 // The report of a file that was read.
@@ -88,7 +88,7 @@ fn report_played(file: &[u8], schedule: Schedule, out: &mut [u8]) -> Report
     let marks = schedule.marks;
     let count = schedule.count;
     let start = schedule.start;
-    let mut answers = space();
+    let mut answers = answer_space();
     let played = player::play(n, marks, count, &file[start..], &mut answers);
     let bench = played.bench;
     let length = lines(&mut out[..0], count, &answers, n, bench);

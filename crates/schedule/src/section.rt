@@ -14,7 +14,7 @@ impl Section {
     pub const COUNT_BYTES: usize = 2;
 
     // The most events that a section can have.
-    pub const MOST: u16 = 4096;
+    pub const MOST_EVENTS: u16 = 4096;
 
     // Reads the count, and looks whether its events are there. What follows them is not looked at.
     pub fn read(bytes: &[u8]) -> Section
@@ -23,10 +23,10 @@ impl Section {
         if bytes.len() < Section::COUNT_BYTES {
             return Section::Refused(Fault::EndsEarly);
         }
-        let high = bytes[0] as u16;
-        let low = bytes[1] as u16;
-        let count = high * 256 + low;
-        if count > Section::MOST {
+        let high = bytes[0];
+        let low = bytes[1];
+        let count = Event::high_first(high, low);
+        if count > Section::MOST_EVENTS {
             return Section::Refused(Fault::TooMany);
         }
         if bytes.len() - Section::COUNT_BYTES < (count as usize) * Event::BYTES {

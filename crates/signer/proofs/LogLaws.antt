@@ -2,7 +2,6 @@
 use Prim.Native.Nat.{ℕ, _+_, zero, suc, _-_, _≤_, _<_}
 use mathlib.Core.Path.{_≡_, refl, ap, subst⁻¹, _∙_}
 use mathlib.Core.List.{List}
-use mathlib.Core.Logic.{_⊎_}
 use mathlib.Core.Bool.{true, false}
 use native.Mathlib.Omega.{arith}
 use native.Mathlib.Decide.{ℕ-discrete}
@@ -12,7 +11,7 @@ use lib.ListN.{length, getD, set, length-replicate}
 use Rattle.signer.specs.Log.{values, valueOf, entryOf, isIdentifier, emptyLog, entryAt, withEntry}
 use Rattle.signer.specs.declared.log.Log.{Log}
 use Rattle.signer.proofs.ChoiceLaws.{if-true, if-false, if-elim}
-use Rattle.signer.proofs.FromOneLaws.{within-low, within-high, within-out, nth-index, nth-after, setNth-index, nth-none, setNth-none, length-setNth, nth-set-same, nth-set-other, nth-replicate, nth-change}
+use Rattle.signer.proofs.FromOneLaws.{within-low, within-high, within-out, nth-index, nth-after, setNth-index, nth-none, setNth-none, length-setNth, nth-set-same, nth-set-other, nth-replicate}
 
 -- an entry's value, where it stands for one, and where it stands for none
 pub value-entry : (v : ℕ) → v ≤ values → valueOf (entryOf v) ≡ v
@@ -83,12 +82,6 @@ entry-same limit l i e w h =
 pub entry-other : (l : Log) (i e j : ℕ) → (j ≡ i → ⊥) → entryAt (withEntry l i e) j ≡ entryAt l j
 unfolding entryAt withEntry
 entry-other l i e j h = nth-set-other (l .entries) j i e 0 h
-
--- so each is as it was, or is the new one at its place, whatever the log's length
-pub entry-change : (l : Log) (i e j : ℕ)
-    → (entryAt (withEntry l i e) j ≡ entryAt l j) ⊎ ((j ≡ i) × (entryAt (withEntry l i e) j ≡ e))
-unfolding entryAt withEntry
-entry-change l i e j = nth-change (l .entries) j i e 0
 
 -- the two together: what holds of the new entry at i, and of the old one elsewhere, holds of every entry
 pub entry-elim : (limit : ℕ) (l : Log) (i e : ℕ) → Whole limit l → isIdentifier limit i ≡ true

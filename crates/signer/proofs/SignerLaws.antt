@@ -43,7 +43,7 @@ fresh-wellformed limit =
 pub signed-one : (s : Signer) (i v w : ℕ) → Signed s i v → Signed s i w → v ≡ w
 signed-one s i v w p q = omega arith
 
--- the blank is a value like any other: where it is signed, the entry is not the one of no statement
+-- the blank is signed as a value is: where it is, the entry is not the one of no statement
 pub blank-stands : (s : Signer) (i : ℕ) → Signed s i 0 → entryAt (s .log) i ≡ 0 → ⊥
 blank-stands s i p q = omega arith
 

@@ -1,4 +1,4 @@
--- Numbers from 1, as document 01 has them for identifiers, rounds and boards, and lists numbered so.
+-- Numbers from 1 to a limit, as document 01 numbers whatever it counts, and lists numbered so.
 use Prim.Native.Nat.{ℕ, zero, suc}
 use mathlib.Core.Bool.{Bool, _&&_}
 use mathlib.Core.List.{List}

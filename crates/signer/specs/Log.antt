@@ -1,4 +1,4 @@
--- Document 01, "Words and sizes": identifiers, values, and what one speaker said under each identifier.
+-- Document 01, "Words and sizes": values, identifiers, and what one speaker said under each identifier.
 -- A definition that depends on how many identifiers there are takes that number as `limit`.
 use Prim.Native.Nat.{ℕ, zero, suc}
 use mathlib.Core.Bool.{Bool}
@@ -7,6 +7,10 @@ use lib.ListN.{replicate}
 use Rattle.signer.specs.Choice.{if_then_else_}
 use Rattle.signer.specs.FromOne.{isWithin, nth, setNth}
 use Rattle.signer.specs.declared.log.Log.{Log}
+
+-- the highest value; the lowest is 1, and 0 is the blank
+abbrev pub values : ℕ
+values = 65535
 
 -- the highest identifier
 abbrev pub identifiers : ℕ
@@ -20,10 +24,6 @@ isIdentifier limit i = isWithin limit i
 -- entry of its own, and entry 0 is left to say that there is no statement
 abbrev pub entryOf : ℕ → ℕ
 entryOf v = suc v
-
--- the highest value; the lowest is 1, and 0 is the blank
-abbrev pub values : ℕ
-values = 65535
 
 -- the value that an entry stands for; the blank where it stands for none
 unfoldable pub valueOf : ℕ → ℕ

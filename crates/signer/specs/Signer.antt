@@ -34,7 +34,7 @@ pub record Request : Type 0 where
   pub identifier : ℕ
   pub value : ℕ
 
--- what comes of one
+-- what comes of a request
 abbrev pub ask : ℕ → Signer → Request → Signing
 ask limit s r = sign limit s (r .identifier) (r .value)
 

@@ -1,7 +1,7 @@
 ghost use mathlib.Core.Path.{_≡_};
 ghost use Rattle.signer.specs.FromOne.{isWithin};
 
-// Whether k is a number from 1 to the limit, as identifiers, rounds and boards are.
+// Whether k is a number from 1 to the limit.
 pub fn within(k: u8, limit: u8) -> bool
     ensures { λ r. ⌜ r ≡ isWithin limit k ⌝ }
 {

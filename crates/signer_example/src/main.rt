@@ -29,8 +29,7 @@ fn show(s: Signer, id: u8) {
     if entry == 0 {
         io::write_all(STDOUT_FILENO, b"nothing\n");
     } else {
-        // an entry is one more than its value
-        io::print_decimal(STDOUT_FILENO, entry as u64 - 1);
+        io::print_decimal(STDOUT_FILENO, Log::value_of(entry) as u64);
         io::write_all(STDOUT_FILENO, b"\n");
     }
 }

@@ -14,16 +14,14 @@ use Rattle.delivery.specs.Tests.{_and_, neg}
 use Rattle.delivery.specs.Counting.{countIn}
 use Rattle.delivery.specs.Limits.{Limits}
 use Rattle.delivery.specs.Bus.{quorum}
-use Rattle.delivery.specs.Rounds.{identifierOf}
 use Rattle.delivery.specs.Delivered.{Store}
-use Rattle.delivery.specs.Acceptance.{says, bears, acceptsOpening, acceptsBallot, acceptsSome}
-use Rattle.delivery.specs.declared.round.Phase.the-variants.{Ballot}
+use Rattle.delivery.specs.Acceptance.{openingEntry, ballotEntry, backs, acceptsOpening, acceptsBallot, acceptsSome}
 use Rattle.delivery.proofs.TestLaws.{and-left, and-right, and-in, fails}
 use Rattle.delivery.proofs.CountLaws.{find, count-some, count-cong}
-use Rattle.delivery.proofs.OneRoundLaws.{says-entry, some-value, value-some}
+use Rattle.delivery.proofs.OneRoundLaws.{some-value, value-some, backs-value}
 use Rattle.delivery.proofs.AllRoundsLaws.{opening-reads, ballot-reads, ballot-sent, accepted-reads, reads-accepted, ballot-needs}
 use Rattle.delivery.proofs.AgreementLaws.{Won}
-use Rattle.vote.specs.Ballots.{someValue, sentOpening, openedValue, tally, borneBy, valueWith}
+use Rattle.vote.specs.Ballots.{someValue, openedValue, tally, borneBy, valueWith}
 
 -- what is found passes, and is one of those that were looked at
 record Found (n : ℕ) (f : ℕ → ℕ) (p : ℕ → Bool) (w : ℕ) : Type 0 where
@@ -81,7 +79,7 @@ module _ (L : Limits) (n : ℕ) (h : Store) (r : ℕ) where
   pub opened-reads : (openedValue L n h r ≡ 0 → ⊥) → acceptsOpening L n h r (openedValue L n h r) ≡ true
   unfolding openedValue
   opened-reads =
-      let x = sentOpening L n h r in
+      let x = openingEntry L n h r in
       if-elim
       (λ (w : ℕ). (w ≡ 0 → ⊥) → acceptsOpening L n h r w ≡ true)
       (acceptsOpening L n h r (valueOf x))
@@ -93,7 +91,7 @@ module _ (L : Limits) (n : ℕ) (h : Store) (r : ℕ) where
   pub opened-within : openedValue L n h r ≤ values
   unfolding openedValue
   opened-within =
-      let x = sentOpening L n h r in
+      let x = openingEntry L n h r in
       if-elim
       (λ (w : ℕ). w ≤ values)
       (acceptsOpening L n h r (valueOf x))
@@ -105,20 +103,15 @@ module _ (L : Limits) (n : ℕ) (h : Store) (r : ℕ) where
   pub reads-opened : (w : ℕ) → w ≤ values → acceptsOpening L n h r w ≡ true → openedValue L n h r ≡ w
   unfolding openedValue
   reads-opened w l o =
-      let e : valueOf (sentOpening L n h r) ≡ w = ap valueOf (opening-reads L n h r w o .said) ∙ value-entry w l in
-      let t : acceptsOpening L n h r (valueOf (sentOpening L n h r)) ≡ true = ap (acceptsOpening L n h r) e ∙ o in
-      if-true (acceptsOpening L n h r (valueOf (sentOpening L n h r))) (valueOf (sentOpening L n h r)) 0 t ∙ e
+      let e : valueOf (openingEntry L n h r) ≡ w = ap valueOf (opening-reads L n h r w o .said) ∙ value-entry w l in
+      let t : acceptsOpening L n h r (valueOf (openingEntry L n h r)) ≡ true = ap (acceptsOpening L n h r) e ∙ o in
+      if-true (acceptsOpening L n h r (valueOf (openingEntry L n h r))) (valueOf (openingEntry L n h r)) 0 t ∙ e
 
   -- where the opening with w is accepted, so is each ballot that bears w
   pub tally-opened : (w : ℕ) → acceptsOpening L n h r w ≡ true
-      → countIn n (λ (s : ℕ). says (entryOf w) (λ (v : ℕ). bears L h r v s)) ≡ tally L n h r w
+      → countIn n (backs L h r (entryOf w)) ≡ tally L n h r w
   unfolding tally
-  tally-opened w o =
-      count-cong
-      n
-      _
-      _
-      (λ s l u. says-entry w (λ (v : ℕ). bears L h r v s) ∙ sym (ballot-sent L n h r s w (inr o)))
+  tally-opened w o = count-cong n _ _ (λ s l u. backs-value L h r w s ∙ sym (ballot-sent L n h r s w (inr o)))
 
   -- a value that m or more accepted ballots bear, and one at least
   pub record Backed (m w : ℕ) : Type 0 where
@@ -137,7 +130,7 @@ module _ (L : Limits) (n : ℕ) (h : Store) (r : ℕ) where
   borne-accepted : (s : ℕ) → (borneBy L n h r s ≡ 0 → ⊥) → acceptsBallot L n h r s (borneBy L n h r s) ≡ true
   unfolding borneBy
   borne-accepted s =
-      let x = h s (identifierOf L Ballot r) in
+      let x = ballotEntry L h r s in
       if-elim
       (λ (w : ℕ). (w ≡ 0 → ⊥) → acceptsBallot L n h r s w ≡ true)
       (acceptsSome L n h r s)
@@ -152,14 +145,14 @@ module _ (L : Limits) (n : ℕ) (h : Store) (r : ℕ) where
   accepted-borne : (s w : ℕ) → w ≤ values → acceptsBallot L n h r s w ≡ true → borneBy L n h r s ≡ w
   unfolding borneBy
   accepted-borne s w l b =
-      if-true (acceptsSome L n h r s) (valueOf (h s (identifierOf L Ballot r))) 0 (reads-accepted L n h r s w b)
+      if-true (acceptsSome L n h r s) (valueOf (ballotEntry L h r s)) 0 (reads-accepted L n h r s w b)
       ∙ ap valueOf (ballot-reads L n h r s w b .said)
       ∙ value-entry w l
 
   borne-within : (s : ℕ) → borneBy L n h r s ≤ values
   unfolding borneBy
   borne-within s =
-      let x = h s (identifierOf L Ballot r) in
+      let x = ballotEntry L h r s in
       if-elim (λ (w : ℕ). w ≤ values) (acceptsSome L n h r s) (valueOf x) 0 (λ t. value-within x) (λ t. omega arith)
 
   -- the value with m or more, read both ways

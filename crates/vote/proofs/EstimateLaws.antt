@@ -11,7 +11,7 @@ use Rattle.signer.proofs.FromOneLaws.{within-low}
 use Rattle.delivery.specs.Limits.{Limits}
 use Rattle.delivery.specs.Bus.{overlap}
 use Rattle.delivery.specs.Delivered.{Store, heard}
-use Rattle.delivery.specs.Acceptance.{allowed}
+use Rattle.delivery.specs.Acceptance.{openingEntry, allowed}
 use Rattle.delivery.specs.declared.delivered.Delivered.{Delivered}
 use Rattle.delivery.proofs.CountLaws.{overlap-pos}
 use Rattle.delivery.proofs.DeliveredLaws.{heard-nothing, deliver-only}
@@ -19,7 +19,7 @@ use Rattle.delivery.proofs.OneRoundLaws.{value-some}
 use Rattle.delivery.proofs.AllRoundsLaws.{allowed-first, opening-reads}
 use Rattle.delivery.proofs.AllowanceLaws.{borne-next, kept-next}
 use Rattle.delivery.proofs.GrowthLaws.{Grows, grows-same, allowed-grows}
-use Rattle.vote.specs.Ballots.{sentOpening, tally}
+use Rattle.vote.specs.Ballots.{tally}
 use Rattle.vote.specs.Boards.{freshPosition, freshBoard, isStarted, hears}
 use Rattle.vote.specs.Rule.{carried}
 use Rattle.vote.specs.Calls.{Call, proposal, own-turn, delivery, suspicion, trusting, announcement, called, after}
@@ -39,7 +39,7 @@ use Rattle.vote.proofs.BoardLaws.{propose-cases, hears-grows, deliver-h
 use Rattle.vote.proofs.ProperLaws.{Proper, fresh-proper, voting-round, called-proper}
 
 -- a round whose opening, as it was sent, is that of a value
-module _ (L : Limits) (n : ℕ) (p : Position) (h : Store) (l : sentOpening L n h (p .round .0) ≤ entryOf values) where
+module _ (L : Limits) (n : ℕ) (p : Position) (h : Store) (l : openingEntry L n h (p .round .0) ≤ entryOf values) where
   -- what ballots bear was opened, so it is a value
   backed-within : (m w : ℕ) → Backed L n h (p .round .0) m w → w ≤ values
   backed-within m w b =
@@ -58,7 +58,7 @@ module _ (L : Limits) (n : ℕ) (p : Position) (h : Store) (l : sentOpening L n 
 
 module _ (L : Limits) (n : ℕ) (p : Position) (h : Store) (v : ℕ) where
   -- the estimate after a round is a value
-  next-within : sentOpening L n h (p .round .0) ≤ entryOf values → p .estimate ≤ values → Next L n p h v → v ≤ values
+  next-within : openingEntry L n h (p .round .0) ≤ entryOf values → p .estimate ≤ values → Next L n p h v → v ≤ values
   next-within l e (kept i z) = omega (arith, e, i)
   next-within l e (taken b) = backed-within L n p h l (overlap n) v b
 
@@ -69,7 +69,7 @@ module _ (L : Limits) (n : ℕ) (p : Position) (h : Store) (v : ℕ) where
       opening-reads L n h (p .round .0) v (backed-opened L n h (p .round .0) (overlap n) v b) .permitted
 
   -- and in the next one
-  pub next-allowed : 1 ≤ n → 1 ≤ p .round .0 → sentOpening L n h (p .round .0) ≤ entryOf values
+  pub next-allowed : 1 ≤ n → 1 ≤ p .round .0 → openingEntry L n h (p .round .0) ≤ entryOf values
       → MayCount L n p h → Next L n p h v
       → allowed L n h (p .round .0) (p .estimate) ≡ true → allowed L n h (suc (p .round .0)) v ≡ true
   unfolding tally

@@ -4,7 +4,7 @@ use Rattle.signer.specs.Choice.{if_then_else_}
 use Rattle.signer.specs.FromOne.{isWithin, nth, setNth}
 use Rattle.signer.specs.Log.{valueOf}
 use Rattle.delivery.specs.Tests.{_and_, _or_, neg}
-use Rattle.delivery.specs.Counting.{plus, countIn, everyIn, countOf, everyOf, someOf}
+use Rattle.delivery.specs.Counting.{plus, countIn, everyIn, countOf, everyOf, someChoice}
 use Rattle.delivery.specs.Rounds.{nextRound, coordinator, phaseOf, identifierOf}
 use Rattle.delivery.specs.Sets.{inSet, setOf, withBoard}
 use Rattle.delivery.specs.Delivered.{placeOf, heardIn, nothingDelivered, deliver}
@@ -18,7 +18,7 @@ use Rattle.vote.specs.Calls.{called, after}
 use Rattle.vote.specs.Examples.{Examples}
 
 pub examples : Examples
-unfolding if_then_else_ isWithin nth setNth valueOf _and_ _or_ neg plus countIn everyIn countOf everyOf someOf nextRound coordinator phaseOf identifierOf inSet setOf withBoard placeOf heardIn nothingDelivered deliver says bears opens counts countsSome divided allowedAfter allowed acceptsOpening acceptsBallot acceptsSome freshPosition freshBoard isStarted isDecided withStatus startingWith propose hears deliverTo suspect someValue openedValue tally borneBy valueWith openMove mayVote voteMove mayCount nextEstimate onward countMove moveAt rule turnNumber answerTo atStage positionAfter statusAfter saidIn hearsOwn turnIn turn convinced announce called after
+unfolding if_then_else_ isWithin nth setNth valueOf _and_ _or_ neg plus countIn everyIn countOf everyOf someChoice nextRound coordinator phaseOf identifierOf inSet setOf withBoard placeOf heardIn nothingDelivered deliver says bears opens counts countsSome divided allowedAfter allowed acceptsOpening acceptsBallot acceptsSome freshPosition freshBoard isStarted isDecided withStatus startingWith propose hears deliverTo suspect someValue openedValue tally borneBy valueWith openMove mayVote voteMove mayCount nextEstimate onward countMove moveAt rule turnNumber answerTo atStage positionAfter statusAfter saidIn hearsOwn turnIn turn convinced announce called after
 examples =
     record {
       letter-l = refl;

@@ -17,12 +17,12 @@ use Rattle.delivery.specs.Bus.{quorum, overlap}
 use Rattle.delivery.specs.Rounds.{coordinator}
 use Rattle.delivery.specs.Sets.{inSet}
 use Rattle.delivery.specs.Delivered.{Store}
-use Rattle.delivery.specs.Acceptance.{acceptsOpening, acceptsSome}
+use Rattle.delivery.specs.Acceptance.{openingEntry, acceptsOpening, acceptsSome}
 use Rattle.delivery.proofs.TestLaws.{and-left, and-right, and-no-left, and-yes-left, neg-no, or-cases, or-left, or-right, or-no-left, decided}
 use Rattle.delivery.proofs.CountLaws.{every-reads, reads-every}
 use Rattle.delivery.proofs.OneRoundLaws.{value-some}
 use Rattle.delivery.proofs.AgreementLaws.{Won}
-use Rattle.vote.specs.Ballots.{sentOpening, openedValue}
+use Rattle.vote.specs.Ballots.{openedValue}
 use Rattle.vote.specs.Rule.{openMove, mayVote, voteMove, mayCount, chosen, carried, nextEstimate, onward, countMove, moveAt, rule}
 use Rattle.vote.specs.declared.position.Position.{Position}
 use Rattle.vote.specs.declared.position.Stage.{Stage}
@@ -48,19 +48,19 @@ module _ (L : Limits) (n : ℕ) (p : Position) (h : Store) where
   r = p .round .0
 
   abbrev sent : Bool
-  sent = neg (eqb (sentOpening L n h r) 0)
+  sent = neg (eqb (openingEntry L n h r) 0)
 
   abbrev doubted : Bool
   doubted = inSet (p .suspected) (coordinator n r)
 
   -- stage B
-  pub sent-votes : (sentOpening L n h r ≡ 0 → ⊥) → mayVote L n p h ≡ true
+  pub sent-votes : (openingEntry L n h r ≡ 0 → ⊥) → mayVote L n p h ≡ true
   unfolding mayVote
-  sent-votes z = or-left sent doubted (value-some (sentOpening L n h r) z)
+  sent-votes z = or-left sent doubted (value-some (openingEntry L n h r) z)
 
-  pub unsent-votes : sentOpening L n h r ≡ 0 → mayVote L n p h ≡ inSet (p .suspected) (coordinator n r)
+  pub unsent-votes : openingEntry L n h r ≡ 0 → mayVote L n p h ≡ inSet (p .suspected) (coordinator n r)
   unfolding mayVote
-  unsent-votes z = or-no-left sent doubted (neg-no (eqb (sentOpening L n h r) 0) (eq-eqb (sentOpening L n h r) 0 z))
+  unsent-votes z = or-no-left sent doubted (neg-no (eqb (openingEntry L n h r) 0) (eq-eqb (openingEntry L n h r) 0 z))
 
   pub vote-ballots : mayVote L n p h ≡ true → voteMove L n p h ≡ Ballots (openedValue L n h r)
   unfolding voteMove

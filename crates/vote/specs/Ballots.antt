@@ -7,10 +7,8 @@ use Rattle.signer.specs.Log.{valueOf}
 use Rattle.delivery.specs.Tests.{_and_, neg}
 use Rattle.delivery.specs.Counting.{countIn}
 use Rattle.delivery.specs.Limits.{Limits}
-use Rattle.delivery.specs.Rounds.{coordinator, identifierOf}
 use Rattle.delivery.specs.Delivered.{Store}
-use Rattle.delivery.specs.Acceptance.{acceptsOpening, acceptsBallot, acceptsSome}
-use Rattle.delivery.specs.declared.round.Phase.the-variants.{Opening, Ballot}
+use Rattle.delivery.specs.Acceptance.{openingEntry, ballotEntry, acceptsOpening, acceptsBallot, acceptsSome}
 
 -- of what f gives for 1 to n, one that passes; 0 where none does
 unfoldable pub someValue : ℕ → (ℕ → ℕ) → (ℕ → Bool) → ℕ
@@ -19,13 +17,9 @@ someValue (suc n) f p = if p (f (suc n)) then f (suc n) else someValue n f p
 
 -- among n boards, by the store h, in round r
 module _ (L : Limits) (n : ℕ) (h : Store) (r : ℕ) where
-  -- the entry of the opening that the coordinator sent
-  abbrev pub sentOpening : ℕ
-  sentOpening = h (coordinator n r) (identifierOf L Opening r)
-
-  -- the value of that opening if it is accepted, else the blank
+  -- the value of the coordinator's opening if it is accepted, else the blank
   unfoldable pub openedValue : ℕ
-  openedValue = if acceptsOpening L n h r (valueOf sentOpening) then valueOf sentOpening else 0
+  openedValue = if acceptsOpening L n h r (valueOf (openingEntry L n h r)) then valueOf (openingEntry L n h r) else 0
 
   -- how many accepted ballots bear w
   unfoldable pub tally : ℕ → ℕ
@@ -33,7 +27,7 @@ module _ (L : Limits) (n : ℕ) (h : Store) (r : ℕ) where
 
   -- what the accepted ballot of s bears; the blank, if there is none
   unfoldable pub borneBy : ℕ → ℕ
-  borneBy s = if acceptsSome L n h r s then valueOf (h s (identifierOf L Ballot r)) else 0
+  borneBy s = if acceptsSome L n h r s then valueOf (ballotEntry L h r s) else 0
 
   -- the value other than the blank that m or more accepted ballots bear, or the blank where there is none. There can be
   -- only one, so it does not matter in which order they are looked through.

@@ -11,8 +11,8 @@ use Rattle.delivery.specs.Bus.{quorum, overlap}
 use Rattle.delivery.specs.Rounds.{coordinator}
 use Rattle.delivery.specs.Sets.{inSet}
 use Rattle.delivery.specs.Delivered.{Store}
-use Rattle.delivery.specs.Acceptance.{acceptsSome}
-use Rattle.vote.specs.Ballots.{sentOpening, openedValue, valueWith}
+use Rattle.delivery.specs.Acceptance.{openingEntry, acceptsSome}
+use Rattle.vote.specs.Ballots.{openedValue, valueWith}
 use Rattle.vote.specs.declared.position.Position.{Position}
 use Rattle.vote.specs.declared.position.Stage.{Stage}
 use Rattle.vote.specs.declared.position.Stage.the-variants.{Open, Vote, Count}
@@ -30,7 +30,7 @@ module _ (L : Limits) (n : ℕ) (p : Position) (h : Store) where
   -- Stage B, when the board may vote: the coordinator's opening has arrived, whatever it bears, or the coordinator is
   -- suspected.
   unfoldable pub mayVote : Bool
-  mayVote = neg (eqb (sentOpening L n h r) 0) or inSet (p .suspected) (coordinator n r)
+  mayVote = neg (eqb (openingEntry L n h r) 0) or inSet (p .suspected) (coordinator n r)
 
   -- Stage B: until it may vote, the board waits. Then it gives its ballot, for the opening's value if it accepts the
   -- opening, and otherwise blank.

@@ -27,7 +27,7 @@ pub fn value_with(store: &[u32; store::PLACES], n: u8, round: Round, least: u8) 
     if value == Log::BLANK {
         return Log::BLANK;
     }
-    let backing = acceptance::tally(store, n, round, Log::entry_of(value));
+    let backing = acceptance::count_bearing(store, n, round, Log::entry_of(value));
     if backing == 0 {
         return Log::BLANK;
     }

@@ -4,9 +4,8 @@ use mathlib.Core.Path.{_≡_, sym, ap, _∙_}
 use mathlib.Core.Logic.{inl}
 use Rattle.signer.specs.Log.{entryOf}
 use Rattle.delivery.specs.Limits.{limits}
-use Rattle.delivery.specs.Rounds.{identifierOf}
 use Rattle.delivery.specs.Delivered.{heardIn}
-use Rattle.delivery.specs.declared.round.Phase.the-variants.{Ballot}
+use Rattle.delivery.specs.Acceptance.{ballotEntry}
 use Rattle.delivery.proofs.OneRoundLaws.{reads-bears}
 use Rattle.delivery.proofs.AllRoundsLaws.{ballot-sent, ballot-unsent, ballot-value}
 use Rattle.delivery.proofs.acceptance.accepts_ballot.Statement.{statement}
@@ -40,7 +39,7 @@ returns c =
     ∙ sym (c .before .entry-of .ensures))))
 
 -- the ballot was sent
-sent : (c : tie.Else1) → heardIn limits (c .before .before .before .before .args .store .now) (c .before .before .before .before .args .speaker) (identifierOf limits Ballot (c .before .before .before .before .args .round .0)) ≡ entryOf (c .before .before .before .before .args .value)
+sent : (c : tie.Else1) → ballotEntry limits (heardIn limits (c .before .before .before .before .args .store .now)) (c .before .before .before .before .args .round .0) (c .before .before .before .before .args .speaker) ≡ entryOf (c .before .before .before .before .args .value)
 sent c =
     let s = c .before .before .before .before in
     sym

@@ -8,9 +8,9 @@ use mathlib.Core.Logic.{inl}
 use Rattle.delivery.specs.Limits.{limits}
 use Rattle.delivery.specs.Delivered.{heardIn}
 use Rattle.delivery.specs.Acceptance.{allowed}
-use Rattle.delivery.proofs.OneRoundLaws.{value-says}
-use Rattle.delivery.proofs.AllRoundsLaws.{allowed-none, allowed-blank, says-low, says-none}
-use Rattle.delivery.proofs.PassLaws.{among, says-among, only-among, counted-next, nobody-allowed, every-first, next-allowed, says-allowed}
+use Rattle.delivery.proofs.OneRoundLaws.{value-says, says-low, says-none}
+use Rattle.delivery.proofs.AllRoundsLaws.{allowed-none, allowed-blank}
+use Rattle.delivery.proofs.PassLaws.{among, says-among, only-among, counted-next, nobody-allowed, every-first, pass-next, says-allowed}
 use Rattle.delivery.proofs.acceptance.allows.Statement.{statement}
 use Rattle.delivery.proofs.acceptance.allows.Tie as tie
 
@@ -51,11 +51,11 @@ opened-requires c κs = search needs
 entry-of-requires : tie.Need-entry-of-requires Inv-loop μ-loop
 entry-of-requires c κs = search needs
 
-tally-requires : tie.Need-tally-requires Inv-loop μ-loop
-tally-requires c κs = search needs
+count-bearing-requires : tie.Need-count-bearing-requires Inv-loop μ-loop
+count-bearing-requires c κs = search needs
 
-tally-requires-2 : tie.Need-tally-requires-2 Inv-loop μ-loop
-tally-requires-2 c κs = search needs
+count-bearing-requires-2 : tie.Need-count-bearing-requires-2 Inv-loop μ-loop
+count-bearing-requires-2 c κs = search needs
 
 settled-requires : tie.Need-settled-requires Inv-loop μ-loop
 settled-requires c κs = search needs
@@ -75,7 +75,7 @@ loop-again c =
     let some : 1 ≤ a .n = omega (arith, l .before .before .before .if3 .left) in (
       omega arith,
       omega (arith, o .before .before .loop-test .taken),
-      next-allowed
+      pass-next
           limits
           (a .n)
           (heardIn limits (a .store .now))
@@ -91,13 +91,13 @@ loop-again c =
           (l .loop .allowance)
           (l .loop .r)
           (o .opened .result)
-          (t .tally .result)
-          (c .before .tally2 .result)
+          (t .count-bearing .result)
+          (c .before .count-bearing2 .result)
           (c .settled .result)
           (record {
             opening = rw (o .opened .ensures, o .before .opening .ensures);
-            blanks = rw (t .tally .ensures, t .before .entry-of .ensures);
-            backers = c .before .tally2 .ensures;
+            blanks = rw (t .count-bearing .ensures, t .before .entry-of .ensures);
+            backers = c .before .count-bearing2 .ensures;
             left = rw (c .settled .ensures, l .before .overlap .ensures, l .before .before .quorum .ensures);
           })
           some),
@@ -132,8 +132,8 @@ allows-spec =
     opening-requires
     opened-requires
     entry-of-requires
-    tally-requires
-    tally-requires-2
+    count-bearing-requires
+    count-bearing-requires-2
     settled-requires
     add-r
     loop-less

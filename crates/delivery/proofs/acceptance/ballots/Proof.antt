@@ -1,5 +1,4 @@
 -- `ballots` meets its contract. Assumes nothing.
-use Prim.Native.Nat.{ℕ}
 use borrow.Author.Needs.{needs}
 use borrow.Author.Tests.{not-true, not-false}
 use native.Mathlib.Omega.{arith}
@@ -10,7 +9,7 @@ use Rattle.delivery.specs.Sets.{setOf, union}
 use Rattle.delivery.specs.Delivered.{heardIn}
 use Rattle.delivery.specs.Acceptance.{says, bears, allowed}
 use Rattle.delivery.proofs.SetLaws.{set-cong, union-sets}
-use Rattle.delivery.proofs.OneRoundLaws.{says-entry}
+use Rattle.delivery.proofs.OneRoundLaws.{backs-value}
 use Rattle.delivery.proofs.AllRoundsLaws.{some-unopened, some-opened-or}
 use Rattle.delivery.proofs.PassLaws.{bearing-fits}
 use Rattle.delivery.proofs.acceptance.ballots.Statement.{statement}
@@ -35,7 +34,7 @@ blank : (c : tie.After-bearing)
 blank c =
     rw
     (c .bearing .ensures, c .before .entry-of .ensures)
-    (set-cong _ _ _ (λ s l h. says-entry 0 (λ (w : ℕ). bears limits (heardIn limits (c .before .before .args .store .now)) (c .before .before .args .round .0) w s)))
+    (set-cong _ _ _ (λ s l h. backs-value limits (heardIn limits (c .before .before .args .store .now)) (c .before .before .args .round .0) 0 s))
 
 returns : tie.Need-returns
 returns c =

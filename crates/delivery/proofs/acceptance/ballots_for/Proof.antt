@@ -1,6 +1,5 @@
 -- `ballots_for` meets its contract. Assumes nothing.
 use borrow.Author.Needs.{needs}
-use Prim.Native.Nat.{ℕ}
 use mathlib.Core.Path.{_≡_, sym, _∙_}
 use mathlib.Core.Logic.{inl, inr}
 use Rattle.delivery.specs.Limits.{limits}
@@ -8,7 +7,7 @@ use Rattle.delivery.specs.Sets.{setOf}
 use Rattle.delivery.specs.Delivered.{heardIn}
 use Rattle.delivery.specs.Acceptance.{bears}
 use Rattle.delivery.proofs.SetLaws.{set-cong, set-none}
-use Rattle.delivery.proofs.OneRoundLaws.{says-entry}
+use Rattle.delivery.proofs.OneRoundLaws.{backs-value}
 use Rattle.delivery.proofs.AllRoundsLaws.{ballot-sent, ballot-unopened}
 use Rattle.delivery.proofs.acceptance.ballots_for.Statement.{statement}
 use Rattle.delivery.proofs.acceptance.ballots_for.Tie as tie
@@ -24,7 +23,7 @@ bearing : (c : tie.After-bearing) → c .bearing .result ≡ setOf (c .before .b
 bearing c =
     rw
     (c .bearing .ensures, c .before .entry-of .ensures)
-    (set-cong _ _ _ (λ s l h. says-entry _ (λ (w : ℕ). bears limits (heardIn limits (c .before .before .args .store .now)) (c .before .before .args .round .0) w s)))
+    (set-cong _ _ _ (λ s l h. backs-value limits (heardIn limits (c .before .before .args .store .now)) (c .before .before .args .round .0) _ s))
 
 returns : tie.Need-returns
 returns c = bearing (c .before) ∙ sym (set-cong _ _ _ (λ s l h. ballot-sent _ _ _ _ s _ (inl (c .if1 .taken))))

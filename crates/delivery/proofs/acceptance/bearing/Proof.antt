@@ -7,13 +7,13 @@ use Rattle.delivery.specs.Limits.{limits}
 use Rattle.delivery.specs.Sets.{setOf}
 use Rattle.delivery.specs.Delivered.{heardIn}
 use Rattle.delivery.proofs.SetLaws.{set-none}
-use Rattle.delivery.proofs.OneRoundLaws.{says-nothing}
+use Rattle.delivery.proofs.OneRoundLaws.{backs-nothing}
 use Rattle.delivery.proofs.PassLaws.{bearing-found}
 use Rattle.delivery.proofs.acceptance.bearing.Statement.{statement}
 use Rattle.delivery.proofs.acceptance.bearing.Tie as tie
 
 returns : tie.Need-returns
-returns c = rw (c .if1 .taken) (sym (set-none _ _ (λ k l h. says-nothing _)))
+returns c = rw (c .if1 .taken) (sym (set-none _ _ (λ k l h. backs-nothing _ _ _ k)))
 
 identifier-requires : tie.Need-identifier-requires
 identifier-requires c κs = search needs

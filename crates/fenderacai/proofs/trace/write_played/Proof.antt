@@ -9,12 +9,13 @@ use lib.ListN.{length, take, drop}
 use borrow.Rule.Slice.PartAt.{part-to-end}
 use Rattle.delivery.specs.Limits.{limits}
 use Rattle.bench.specs.Runs.{eventsIn}
-use Rattle.bench.specs.Setups.{freshBench, freshOf}
+use Rattle.bench.specs.Setups.{freshBench}
+use Rattle.bench.specs.declared.bench.Bench.{Bench}
 use Rattle.bench.specs.declared.fresh.Fresh.{Fresh}
+use Rattle.bench.proofs.SetupLaws.{fresh-bench}
 use Rattle.schedule.specs.Prints.{PutAt}
-use Rattle.schedule.proofs.FileLaws.{bytes-of}
 use Rattle.schedule.proofs.PrintLaws.{put-then, put-length, buffer-short, buffer-written}
-use Rattle.schedule.proofs.PlayLaws.{Filed, file-taken, start-within, events-fit}
+use Rattle.schedule.proofs.PlayLaws.{FileRead, file-taken, start-within, events-fit}
 use Rattle.fenderacai.specs.Rows.{row}
 use Rattle.fenderacai.specs.Traces.{rowsOf, traced}
 use Rattle.fenderacai.proofs.RowLaws.{length-row}
@@ -23,16 +24,8 @@ use Rattle.fenderacai.proofs.trace.write_played.Statement.{statement}
 use Rattle.fenderacai.proofs.trace.write_played.Tie as tie
 
 -- the file was read
-filed : (c : tie.After-shared-slice-known) → Filed limits (c .before .args .file .now) (c .before .args .schedule)
-filed c =
-    let s = c .before in
-    file-taken
-    limits
-    (s .args .file .now)
-    (s .args .schedule)
-    (bytes-of (s .args .file .now) (λ i. omega (arith, c .shared-slice-known .given i)))
-    (s .pre .0)
-    (s .pre .1)
+filed : (c : tie.After-shared-slice-known) → FileRead limits (c .before .args .file .now) (c .before .args .schedule)
+filed c = file-taken limits _ _ (λ i. omega (arith, c .shared-slice-known .given i)) (c .before .pre .0) (c .before .pre .1)
 
 cast-count : tie.Need-cast-count
 cast-count c = search needs
@@ -82,15 +75,14 @@ same : (c : tie.After-put) →
     row limits 0 b
     ++ rowsOf limits b (eventsIn (a .schedule .count) (take (length (a .file .now) - a .schedule .start) (drop (a .schedule .start) (a .file .now))))
     ≡ traced limits (a .file .now)
-unfolding freshOf
 same c =
     let f = c .before .before .before in
     let k = c .before .before .before .before .before .before .before .before in
     let s = k .before .args .schedule in
     let bs = k .before .args .file .now in
     ap
-    (λ (x : Fresh). row limits 0 (x .bench) ++ rowsOf limits (x .bench) (eventsIn (s .count) (take (length bs - s .start) (drop (s .start) bs))))
-    (f .fresh .ensures)
+    (λ (b : Bench). row limits 0 b ++ rowsOf limits b (eventsIn (s .count) (take (length bs - s .start) (drop (s .start) bs))))
+    (ap (λ (x : Fresh). x .bench) (f .fresh .ensures) ∙ fresh-bench limits (s .n) (s .marks))
     ∙ ap
     (λ (xs : List ℕ). row limits 0 (freshBench limits (s .n) (s .marks)) ++ rowsOf limits (freshBench limits (s .n) (s .marks)) (eventsIn (s .count) xs))
     (part-to-end bs (s .start))

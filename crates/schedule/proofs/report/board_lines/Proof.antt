@@ -7,7 +7,7 @@ use lib.ListN.{length}
 use Rattle.bench.specs.Shows.{shown}
 use Rattle.delivery.specs.Limits.{limits}
 use Rattle.schedule.specs.Prints.{boardLine, boardLines, boardLineBytes, PutAt}
-use Rattle.schedule.proofs.PrintLaws.{put-length, board-within, lines-none, lines-next}
+use Rattle.schedule.proofs.PrintLaws.{put-length, board-within, parts-none, parts-next}
 use Rattle.schedule.proofs.report.board_lines.Statement.{statement}
 use Rattle.schedule.proofs.report.board_lines.Tie as tie
 
@@ -18,7 +18,7 @@ abbrev μ-loop : tie.MeasureT-loop
 μ-loop out₀ at n bench next₀ k₀ out next k = n - k
 
 loop-holds : tie.Need-loop-holds Inv-loop μ-loop
-loop-holds c = (omega arith, omega arith, lines-none _)
+loop-holds c = (omega arith, omega arith, parts-none _)
 
 add-shown : tie.Need-add-shown Inv-loop μ-loop
 add-shown c = omega arith
@@ -48,7 +48,7 @@ loop-again c =
     let bench = l .before .before .args .bench in (
       omega arith,
       omega (arith, within (c .before .before .before)),
-      lines-next (λ j. boardLine j (shown limits bench j)) (l .loop .k) (l .loop .inv .2) (rw (c .before .before .before .before .shown .ensures) at (c .before .before .board-line .ensures)),
+      parts-next (λ j. boardLine j (shown limits bench j)) (l .loop .k) (l .loop .inv .2) (rw (c .before .before .before .before .shown .ensures) at (c .before .before .board-line .ensures)),
     )
 
 same-length : tie.Need-same-length Inv-loop μ-loop

@@ -1,13 +1,13 @@
 -- `report::event_lines` meets its contract. The loop's invariant: the lines of the first k events are put, each of them within its
 -- most bytes. Assumes nothing.
-use Prim.Native.Nat.{ℕ, _+_, _-_, _*_, _≤_}
+use Prim.Native.Nat.{_+_, _-_, _*_, _≤_}
 use native.Mathlib.Omega.{arith}
-use mathlib.Core.Path.{_≡_, ap, _∙_}
+use mathlib.Core.Path.{_≡_}
 use lib.ListN.{length, getD}
 use Rattle.signer.specs.FromOne.{nth}
-use Rattle.signer.proofs.FromOneLaws.{nth-index}
+use Rattle.signer.proofs.FromOneLaws.{nth-after}
 use Rattle.schedule.specs.Prints.{eventLine, eventLines, eventLineBytes, PutAt}
-use Rattle.schedule.proofs.PrintLaws.{put-length, event-within, lines-none, lines-next}
+use Rattle.schedule.proofs.PrintLaws.{put-length, event-within, parts-none, parts-next}
 use Rattle.schedule.proofs.report.event_lines.Statement.{statement}
 use Rattle.schedule.proofs.report.event_lines.Tie as tie
 
@@ -18,7 +18,7 @@ abbrev μ-loop : tie.MeasureT-loop
 μ-loop out₀ count answers next₀ k₀ out next k = count - k
 
 loop-holds : tie.Need-loop-holds Inv-loop μ-loop
-loop-holds c = (omega arith, omega arith, lines-none _)
+loop-holds c = (omega arith, omega arith, parts-none _)
 
 cast-answer : tie.Need-cast-answer Inv-loop μ-loop
 cast-answer c = omega arith
@@ -49,11 +49,10 @@ loop-again c =
     let l = c .before .before .before .before .before .before in
     let k = l .loop .k in
     let answers = l .before .before .before .args .answers .now in
-    let i : k + 1 - 1 ≡ k = omega arith in
-    let e : nth answers (k + 1) 0 ≡ getD answers k 0 = nth-index answers (k + 1) 0 (omega arith) ∙ ap (λ (j : ℕ). getD answers j 0) i in (
+    let e : nth answers (k + 1) 0 ≡ getD answers k 0 = nth-after answers k 0 in (
       omega arith,
       omega (arith, within (c .before .before .before)),
-      lines-next (λ j. eventLine j (nth answers j 0)) k (l .loop .inv .2) (rw e (c .before .before .event-line .ensures)),
+      parts-next (λ j. eventLine j (nth answers j 0)) k (l .loop .inv .2) (rw e (c .before .before .event-line .ensures)),
     )
 
 same-length : tie.Need-same-length Inv-loop μ-loop

@@ -14,26 +14,17 @@ use Rattle.bench.specs.declared.play.Played.{Played}
 use Rattle.schedule.specs.Files.{mostEvents}
 use Rattle.schedule.specs.Prints.{eventLines, boardLines, printed, reportFrom, bufferFrom, longestPrint}
 use Rattle.schedule.specs.declared.report.Report.{Report}
-use Rattle.schedule.proofs.FileLaws.{bytes-of}
 use Rattle.schedule.proofs.PrintLaws.{report-short, report-written}
-use Rattle.schedule.proofs.PlayLaws.{Filed, file-taken, few-boards, few-events, start-within, print-played}
+use Rattle.schedule.proofs.PlayLaws.{FileRead, file-taken, few-boards, few-events, start-within, print-played}
 use Rattle.schedule.proofs.report.report_played.Statement.{statement}
 use Rattle.schedule.proofs.report.report_played.Tie as tie
 
 -- the file was read
-filed : (c : tie.After-shared-slice-known) → Filed limits (c .before .args .file .now) (c .before .args .schedule)
-filed c =
-    let s = c .before in
-    file-taken
-    limits
-    (s .args .file .now)
-    (s .args .schedule)
-    (bytes-of (s .args .file .now) (λ i. omega (arith, c .shared-slice-known .given i)))
-    (s .pre .0)
-    (s .pre .1)
+filed : (c : tie.After-shared-slice-known) → FileRead limits (c .before .args .file .now) (c .before .args .schedule)
+filed c = file-taken limits _ _ (λ i. omega (arith, c .shared-slice-known .given i)) (c .before .pre .0) (c .before .pre .1)
 
-space-requires : tie.Need-space-requires
-space-requires c κs = search needs
+answer-space-requires : tie.Need-answer-space-requires
+answer-space-requires c κs = search needs
 
 sub-play : tie.Need-sub-play
 sub-play c = start-within limits _ _ (filed (c .before .before .before))
@@ -67,7 +58,7 @@ asked c =
     let p = c .before .before .before in
     let k = p .before .before .before in
     let few = few-events limits _ _ (filed k) in
-    (few, omega (arith, p .space .ensures, c .play .kept .1 .1 .1 .1 .0, few), few-boards limits _ _ (filed k))
+    (few, omega (arith, p .answer-space .ensures, c .play .kept .1 .1 .1 .1 .0, few), few-boards limits _ _ (filed k))
 
 -- and what they print
 same : (c : tie.After-play) →
@@ -79,8 +70,8 @@ same c =
     let k = p .before .before .before in
     let s = k .before .args .schedule in
     let bs = k .before .args .file .now in
-    let buf = p .space .result in
-    let few : s .count ≤ length buf = omega (arith, p .space .ensures, few-events limits bs s (filed k)) in
+    let buf = p .answer-space .result in
+    let few : s .count ≤ length buf = omega (arith, p .answer-space .ensures, few-events limits bs s (filed k)) in
     let part : take (eventBytes * s .count) (take (length bs - s .start) (drop (s .start) bs)) ≡ take (eventBytes * s .count) (drop (s .start) bs) = ap (take (eventBytes * s .count)) (part-to-end bs (s .start)) in
     ap
     (λ (xs : List ℕ). eventLines (s .count) xs ++ boardLines limits (s .n) (c .play .result .bench))
@@ -145,7 +136,7 @@ pub report-played-spec : {M : Type 1} → statement M
 report-played-spec =
     tie.close
     (tie.spec
-    space-requires
+    answer-space-requires
     sub-play
     part-play-start
     part-play-end

@@ -5,7 +5,8 @@ use Rattle.signer.specs.Log.{valueOf}
 use Rattle.signer.proofs.ChoiceLaws.{if-true, if-false}
 use Rattle.delivery.specs.Limits.{limits}
 use Rattle.delivery.specs.Delivered.{heardIn}
-use Rattle.vote.specs.Ballots.{sentOpening, openedValue}
+use Rattle.delivery.specs.Acceptance.{openingEntry}
+use Rattle.vote.specs.Ballots.{openedValue}
 use Rattle.vote.proofs.ballots.opened_value.Statement.{statement}
 use Rattle.vote.proofs.ballots.opened_value.Tie as tie
 
@@ -21,7 +22,7 @@ accepts-opening-requires c κs = search needs
 -- the value that was read is that of the opening
 sent : (c : tie.After-value-of)
     → c .value-of .result
-    ≡ valueOf (sentOpening limits (c .before .before .args .n) (heardIn limits (c .before .before .args .store .now)) (c .before .before .args .round .0))
+    ≡ valueOf (openingEntry limits (c .before .before .args .n) (heardIn limits (c .before .before .args .store .now)) (c .before .before .args .round .0))
 sent c = c .value-of .ensures ∙ ap valueOf (c .before .opening .ensures)
 
 returns : tie.Need-returns

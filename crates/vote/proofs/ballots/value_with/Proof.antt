@@ -7,7 +7,7 @@ use Rattle.signer.specs.Log.{entryOf}
 use Rattle.delivery.specs.Counting.{countIn}
 use Rattle.delivery.specs.Limits.{limits}
 use Rattle.delivery.specs.Delivered.{heardIn}
-use Rattle.delivery.specs.Acceptance.{says, bears}
+use Rattle.delivery.specs.Acceptance.{backs}
 use Rattle.vote.specs.Ballots.{openedValue, tally}
 use Rattle.vote.proofs.BallotLaws.{Backed, opened-reads, opened-within, tally-opened, reads-with, with-none}
 use Rattle.vote.proofs.ballots.value_with.Statement.{statement}
@@ -22,13 +22,13 @@ returns c = sym (with-none _ _ _ _ _ (λ b. b .value (sym (c .before .opened-val
 entry-of-requires : tie.Need-entry-of-requires
 entry-of-requires c κs = search needs
 
-tally-requires : tie.Need-tally-requires
-tally-requires c κs = search needs
+count-bearing-requires : tie.Need-count-bearing-requires
+count-bearing-requires c κs = search needs
 
 -- how many ballots bear the opening's value, which is accepted
-backing : (c : tie.After-tally)
+backing : (c : tie.After-count-bearing)
     → let s = c .before .before .before .before in
-    c .tally .result
+    c .count-bearing .result
     ≡ tally limits (s .args .n) (heardIn limits (s .args .store .now)) (s .args .round .0) (openedValue limits (s .args .n) (heardIn limits (s .args .store .now)) (s .args .round .0))
 backing c =
     let e = c .before .before in
@@ -37,9 +37,9 @@ backing c =
     let n = s .args .n in
     let h = heardIn limits (s .args .store .now) in
     let r = s .args .round .0 in
-    c .tally .ensures
+    c .count-bearing .ensures
     ∙ ap
-    (λ (x : ℕ). countIn n (λ (k : ℕ). says x (λ (w : ℕ). bears limits h r w k)))
+    (λ (x : ℕ). countIn n (backs limits h r x))
     (c .before .entry-of .ensures ∙ ap entryOf (o .ensures))
     ∙ tally-opened limits n h r (openedValue limits n h r) (opened-reads limits n h r (λ z. e .if1 .left (o .ensures ∙ z)))
 
@@ -63,4 +63,4 @@ returns-4 c =
     o .opened-value .ensures ∙ sym (reads-with _ _ _ _ _ _ (opened-within _ _ _ _) b)
 
 pub value-with-spec : {M : Type 1} → statement M
-value-with-spec = tie.close (tie.spec opened-value-requires returns entry-of-requires tally-requires returns-2 returns-3 returns-4)
+value-with-spec = tie.close (tie.spec opened-value-requires returns entry-of-requires count-bearing-requires returns-2 returns-3 returns-4)

@@ -22,23 +22,15 @@ byte-requires-5 c κs = search needs
 byte-requires-6 : tie.Need-byte-requires-6
 byte-requires-6 c κs = search needs
 
-cast-t8 : tie.Need-cast-t8
-cast-t8 c = search needs
-
-mul-t9 : tie.Need-mul-t9
-mul-t9 c = search needs
-
-cast-t10 : tie.Need-cast-t10
-cast-t10 c = search needs
-
-add-t11 : tie.Need-add-t11
-add-t11 c = search needs
+high-first-requires : tie.Need-high-first-requires
+high-first-requires c κs = search needs
 
 returns : tie.Need-returns
 unfolding eventFrom
 returns c =
-    let d = c .before .before .before in
-    rw (c .byte6 .ensures, c .before .byte5 .ensures, c .before .before .byte4 .ensures, d .byte3 .ensures, d .before .byte2 .ensures, d .before .before .byte .ensures)
+    let l = c .before in
+    let d = l .before .before .before in
+    rw (c .high-first .ensures, l .byte6 .ensures, l .before .byte5 .ensures, l .before .before .byte4 .ensures, d .byte3 .ensures, d .before .byte2 .ensures, d .before .before .byte .ensures)
 
 pub read-spec : {M : Type 1} → statement M
 read-spec =
@@ -50,8 +42,5 @@ read-spec =
     byte-requires-4
     byte-requires-5
     byte-requires-6
-    cast-t8
-    mul-t9
-    cast-t10
-    add-t11
+    high-first-requires
     returns)

@@ -1,7 +1,7 @@
 -- `Schedule::read_events` meets its contract: the first section was read, so the second begins after it, and what is
 -- longer than both goes on after the last event. Assumes nothing.
 use borrow.Author.Needs.{needs}
-use Prim.Native.Nat.{ℕ, _+_, _-_, _<_}
+use Prim.Native.Nat.{ℕ, _+_, _<_}
 use native.Mathlib.Omega.{arith}
 use mathlib.Core.Path.{_≡_, sym, ap, _∙_}
 use lib.ListN.{length}
@@ -12,7 +12,7 @@ use Rattle.schedule.specs.Readings.{padded, sectionOf, scheduleFrom}
 use Rattle.schedule.specs.declared.answer.FileAnswer.the-variants.{Taken}
 use Rattle.schedule.specs.declared.bus.Bus.{Bus}
 use Rattle.schedule.specs.declared.file.Schedule.{Schedule}
-use Rattle.schedule.proofs.FileLaws.{bytes-of, Fronted, bus-taken, Sectioned, section-taken, section-refused, file-back, file-over, file-there}
+use Rattle.schedule.proofs.FileLaws.{bytes-of, BusRead, bus-taken, SectionRead, section-taken, section-refused, file-back, file-over, file-there}
 use Rattle.schedule.proofs.file.Schedule.read_events.Statement.{statement}
 use Rattle.schedule.proofs.file.Schedule.read_events.Tie as tie
 
@@ -21,7 +21,7 @@ abbrev made : Bus → ℕ → Schedule
 made b k = record { n = b .n; marks = b .marks; count = k; start = 1 + b .n + countBytes; answer = Taken }
 
 -- the first section was read
-front : (c : tie.After-shared-slice-known) → Fronted limits (c .before .args .file .now) (c .before .args .bus)
+front : (c : tie.After-shared-slice-known) → BusRead limits (c .before .args .file .now) (c .before .args .bus)
 front c =
     let s = c .before in
     bus-taken
@@ -70,7 +70,7 @@ add-start : tie.Need-add-start
 add-start c = search needs
 
 -- the second section was read
-back : (c : tie.After-known-told2) → Sectioned (front (c .before .before .before .before .before .before) .rest) (c .before .section2 .given .0 .0)
+back : (c : tie.After-known-told2) → SectionRead (front (c .before .before .before .before .before .before) .rest) (c .before .section2 .given .0 .0)
 back c =
     let r = c .before .before .before in
     let f = front (r .before .before .before) in

@@ -4,7 +4,7 @@ use mathlib.Core.Path.{_≡_, sym, ap, _∙_}
 use Rattle.delivery.specs.Limits.{limits}
 use Rattle.schedule.specs.Prints.{refusedLine, printed}
 use Rattle.schedule.specs.declared.file.Schedule.{Schedule}
-use Rattle.schedule.proofs.PlayLaws.{file-refused}
+use Rattle.schedule.proofs.PlayLaws.{refused-print, file-fault}
 use Rattle.schedule.proofs.report.Report.write.Statement.{statement}
 use Rattle.schedule.proofs.report.Report.write.Tie as tie
 
@@ -32,7 +32,7 @@ returns c =
     let k = r .before .before .before in
     let s = k .before .before in
     let bs = s .before .before .before .args .file .now in
-    let line : printed limits bs ≡ refusedLine (k .answer .given .0 .0) = file-refused limits bs _ (sym (ap (λ (x : Schedule). x .answer) (s .read .ensures)) ∙ k .answer .given .1) in
+    let line : printed limits bs ≡ refusedLine (k .answer .given .0 .0) = refused-print limits bs _ (file-fault limits bs _ (sym (ap (λ (x : Schedule). x .answer) (s .read .ensures)) ∙ k .answer .given .1)) .1 in
     rw line (r .report-refused .ensures)
 
 same-length-2 : tie.Need-same-length-2
