@@ -121,6 +121,11 @@ pub length-written : (xs ys : List ℕ) → length xs ≤ length ys → length (
 unfolding written
 length-written xs ys h = omega (arith, length-append xs (drop (length xs) ys), length-drop (length xs) ys)
 
+-- how playing a list ends goes by its length and the room alone
+pub played-ending : (L : Limits) (n : ℕ) (marks bs : List ℕ) (room : ℕ) → playedOf L n marks bs room .ending ≡ endingOf (length bs) room
+unfolding playedOf
+played-ending L n marks bs room = refl
+
 -- there is room for the answers to what is played
 pub played-fits : (bs : List ℕ) (room : ℕ) → length (eventsPlayed bs room) ≤ room
 unfolding endingOf playedBy

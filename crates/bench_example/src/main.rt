@@ -361,26 +361,34 @@ fn copies() {
     play_schedule(b"and board 3 hears it\n", 3, NONE, &echo);
 }
 
-// Board 1 opens round 1 with 700: what it has signed so, and what boards 1 and 2 have delivered of it. A log's entry is
-// one more than the value, and 0 where there is none.
-fn opening() {
-    let propose = Event {
+// Board 1 proposes 700.
+fn proposal() -> Event {
+    Event {
         kind: Event::PROPOSE,
         a: 1,
         b: 0,
         id: 0,
         value: 700,
-    };
-    let turn = Event {
+    }
+}
+
+// Board 1 takes its turn.
+fn turn() -> Event {
+    Event {
         kind: Event::TURN,
         a: 1,
         b: 0,
         id: 0,
         value: 0,
-    };
+    }
+}
+
+// Board 1 opens round 1 with 700: what it has signed so, and what boards 1 and 2 have delivered of it. A log's entry is
+// one more than the value, and 0 where there is none.
+fn opening() {
     let bench = Bench::fresh(3, NONE).bench;
-    let proposed = bench.event(propose).bench;
-    let opened = proposed.event(turn).bench;
+    let proposed = bench.event(proposal()).bench;
+    let opened = proposed.event(turn()).bench;
     let id = Identifier(1);
     write(b"board 1 opens round 1 with 700\n");
     write_last(b"signed", opened.signed(1, id) as u64);
@@ -431,24 +439,10 @@ fn answer_after(
 
 // A board alone proposes 700. With its third turn it decides, and a fourth is refused.
 fn later_turns() {
-    let propose = Event {
-        kind: Event::PROPOSE,
-        a: 1,
-        b: 0,
-        id: 0,
-        value: 700,
-    };
-    let turn = Event {
-        kind: Event::TURN,
-        a: 1,
-        b: 0,
-        id: 0,
-        value: 0,
-    };
     write(b"one board: its third turn, and its fourth\n");
-    let third = answer_after(1, NONE, propose, turn, 2);
+    let third = answer_after(1, NONE, proposal(), turn(), 2);
     write_answer(4, third.number());
-    let fourth = answer_after(1, NONE, propose, turn, 3);
+    let fourth = answer_after(1, NONE, proposal(), turn(), 3);
     write_answer(5, fourth.number());
 }
 

@@ -11,7 +11,7 @@ use Rattle.bench.specs.Events.{eventBytes}
 use Rattle.bench.specs.Runs.{playedOf}
 use Rattle.bench.specs.declared.play.Ending.the-variants.{Played}
 use Rattle.bench.specs.declared.play.Played.{Played as PlayedList}
-use Rattle.bench.proofs.RunLaws.{played-room}
+use Rattle.bench.proofs.RunLaws.{played-ending, played-room}
 use Rattle.bench_example.proofs.play.Statement.{statement}
 use Rattle.bench_example.proofs.play.Tie as tie
 
@@ -20,8 +20,9 @@ fits : (n : ℕ) (marks bs room : List ℕ) (r : PlayedList)
     → r ≡ playedOf limits n marks bs (length room)
     → r .ending ≡ Played
     → length bs / eventBytes ≤ length room
-unfolding playedOf
-fits n marks bs room r h e = played-room bs (length room) (sym (ap (λ (x : PlayedList). x .ending) h) ∙ e)
+fits n marks bs room r h e =
+    let p = played-ending limits n marks bs (length room) in
+    played-room bs (length room) (sym p ∙ sym (ap (λ (x : PlayedList). x .ending) h) ∙ e)
 
 write-requires : tie.Need-write-requires
 write-requires c κs = search needs
