@@ -42,13 +42,11 @@ sign a i v = event signing a 0 i v
 abbrev pub alone : List Event
 alone = propose 1 700 ∷ turn 1 ∷ turn 1 ∷ turn 1 ∷ []
 
--- The incident, of three boards of which the second was reset and so counts as faulty. Board 1 opens round 1 with 41 and
--- decides it, by its own ballot and that of board 2. Board 3, which had heard nothing and voted blank, hears the opening and
--- board 1's ballot, and goes on to round 2. Board 2 opens that with 40, while its ballot of round 1 is still on the way.
+-- The incident, of three boards of which the second was reset and so counts as faulty; with the announcements below it is
+-- schedules/incident, event for event. Board 1 opens round 1 with 41 and decides it, by its own ballot and that of board 2.
 abbrev pub firstDecides : List Event
 firstDecides =
     propose 1 41
-    ∷ propose 3 40
     ∷ turn 1
     ∷ turn 1
     ∷ sign 2 2 41
@@ -57,23 +55,25 @@ firstDecides =
     ∷ turn 1
     ∷ []
 
+-- board 3, which had heard nothing and voted blank, hears the opening and board 1's ballot, and goes on to round 2
 abbrev pub thirdGoesOn : List Event
 thirdGoesOn =
-    suspect 3 1
-    ∷ suspect 3 2
+    propose 3 40
     ∷ turn 3
+    ∷ suspect 3 1
     ∷ turn 3
     ∷ deliver 3 1 1 41
     ∷ deliver 3 1 2 41
-    ∷ turn 3
-    ∷ turn 3
-    ∷ sign 2 3 40
-    ∷ deliver 3 2 3 40
+    ∷ suspect 3 2
     ∷ turn 3
     ∷ []
 
+-- board 2 opens that with 40, while its ballot of round 1 is still on the way
+abbrev pub secondOpens : List Event
+secondOpens = sign 2 3 40 ∷ turn 3 ∷ deliver 3 2 3 40 ∷ turn 3 ∷ []
+
 abbrev pub incident : List Event
-incident = firstDecides ++ thirdGoesOn
+incident = firstDecides ++ (thirdGoesOn ++ secondOpens)
 
 -- then board 2 announces 40, and board 1 announces 41 before and after board 2's ballot of round 1 arrives
 abbrev pub announcements : List Event

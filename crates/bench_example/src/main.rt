@@ -43,12 +43,10 @@ const ALONE: [[u8; Event::BYTES]; 4] = [
     [Event::TURN, 1, 0, 0, 0, 0],
 ];
 
-// The incident: board 2 was reset, and has to count as faulty.
+// The incident, as in schedules/incident: board 2 was reset, and has to count as faulty.
 const INCIDENT: [[u8; Event::BYTES]; 23] = [
-    // board 1 has set 41, board 3 has set 40
+    // board 1 proposes set 41, opens round 1 with it, and votes for it
     [Event::PROPOSE, 1, 0, 0, 0, 41],
-    [Event::PROPOSE, 3, 0, 0, 0, 40],
-    // board 1 opens round 1 with 41, and votes for it
     [Event::TURN, 1, 0, 0, 0, 0],
     [Event::TURN, 1, 0, 0, 0, 0],
     // so does board 2, and board 1 hears it
@@ -57,7 +55,8 @@ const INCIDENT: [[u8; Event::BYTES]; 23] = [
     // board 3 is silent; board 1 suspects it, and decides 41 by the two ballots
     [Event::SUSPECT, 1, 3, 0, 0, 0],
     [Event::TURN, 1, 0, 0, 0, 0],
-    // board 3 does not open round 1; it has heard nothing of board 1, suspects it, and votes blank
+    // board 3 proposes set 40, and does not open round 1; it has heard nothing of board 1, suspects it, and votes blank
+    [Event::PROPOSE, 3, 0, 0, 0, 40],
     [Event::TURN, 3, 0, 0, 0, 0],
     [Event::SUSPECT, 3, 1, 0, 0, 0],
     [Event::TURN, 3, 0, 0, 0, 0],
@@ -67,10 +66,9 @@ const INCIDENT: [[u8; Event::BYTES]; 23] = [
     // it suspects board 2, whose ballot is still on its way, and goes on to round 2 with estimate 41
     [Event::SUSPECT, 3, 2, 0, 0, 0],
     [Event::TURN, 3, 0, 0, 0, 0],
-    // it does not open round 2
-    [Event::TURN, 3, 0, 0, 0, 0],
-    // board 2, fresh from its reset, opens round 2 with 40, and board 3 hears it
+    // board 2, fresh from its reset, opens round 2 with 40; board 3 does not open it, and hears that opening
     [Event::SIGN, 2, 0, 3, 0, 40],
+    [Event::TURN, 3, 0, 0, 0, 0],
     [Event::DELIVER, 3, 2, 3, 0, 40],
     // board 3 does not take 40: its ballot is blank
     [Event::TURN, 3, 0, 0, 0, 0],
