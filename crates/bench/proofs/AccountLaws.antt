@@ -7,11 +7,11 @@ use mathlib.Core.Logic.{_⊎_, inl, inr, ⊎-elim, _↔_}
 use borrow.Author.Tests.{eq-eqb, eqb-true}
 use lib.Dec.{eqb}
 use Rattle.signer.specs.FromOne.{isWithin}
-use Rattle.signer.specs.Choice.{if_then_else_}
+use Rattle.signer.specs.Conditional.{if_then_else_}
 use Rattle.signer.specs.Log.{isIdentifier, entryOf}
 use Rattle.signer.specs.Signer.{grants}
 use Rattle.signer.proofs.SignerLaws.{grants-only}
-use Rattle.signer.proofs.ChoiceLaws.{if-elim}
+use Rattle.signer.proofs.ConditionalLaws.{if-elim}
 use Rattle.delivery.specs.Limits.{Limits}
 use Rattle.delivery.specs.Bus.{isBoard}
 use Rattle.delivery.specs.Sets.{inSet, withBoard, withoutBoard}
@@ -25,7 +25,7 @@ use Rattle.vote.specs.Announcements.{announce}
 use Rattle.vote.specs.declared.board.Decision.{Decision}
 use Rattle.vote.proofs.StatusLaws.{unstarted-idle, idle-decided, voting-decided, decided-one, decided-decided, decides-status, status-decides}
 use Rattle.vote.specs.Turns.{positionAfter, statusAfter, turn}
-use Rattle.vote.specs.Calls.{Call, proposal, own-turn, delivery, suspicion, trusting as trustingCall, announcement, called}
+use Rattle.vote.specs.Calls.{Call, proposal, own-turn, delivery, suspicion, restored-trust, announcement, called}
 use Rattle.vote.specs.declared.board.Board.{Board}
 use Rattle.vote.specs.declared.board.Status.{Status}
 use Rattle.vote.specs.declared.board.Status.the-variants.{Voting, Decided}
@@ -35,7 +35,7 @@ use Rattle.vote.specs.declared.statement.Said.the-variants.{Nothing, One}
 use Rattle.vote.specs.declared.statement.Statement.{Statement}
 use Rattle.vote.specs.declared.turn.Turn.{Turn}
 use Rattle.vote.proofs.BoardLaws.{Convinced, reads-convinced, announce-decides, propose-starts, propose-position, hears-delivers, deliver-hears, suspect-adds, trust-drops}
-use Rattle.vote.proofs.LifeLaws.{called-proposal, called-turn, called-delivery, called-suspicion, called-trusting, called-announcement}
+use Rattle.vote.proofs.LifeLaws.{called-proposal, called-turn, called-delivery, called-suspicion, called-trust, called-announcement}
 use Rattle.vote.proofs.SigningLaws.{Signs, Speech, silent, speaks, turn-speech}
 use Rattle.vote.proofs.TurnLaws.{nothing-one, one-statement, turn-voting}
 use Rattle.bench.specs.Events.{proposing, turning, delivering, announcing, suspecting, trusting, signing}
@@ -584,7 +584,7 @@ module _ (L : Limits) (S : Setup) (g : Ground L S) (c : Bench) (f : Fit L S c) (
       account-suspecting
       c′
       trusting
-      (trustingCall (e .b))
+      (restored-trust (e .b))
       (trust b (e .b))
       (withoutBoard (b .position .suspected) (e .b))
       k
@@ -592,7 +592,7 @@ module _ (L : Limits) (S : Setup) (g : Ground L S) (c : Bench) (f : Fit L S c) (
       refl
       refl
       refl
-      (called-trusting L (c .n) a b (e .b))
+      (called-trust L (c .n) a b (e .b))
       (trust-drops b (e .b))
       (believing-trust L (S .n) a (t a) e k)
       s

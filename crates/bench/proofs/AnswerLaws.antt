@@ -5,7 +5,7 @@ use borrow.Author.Tests.{eqb-true, eqb-false, ne-eqb}
 use mathlib.Core.Path.{_≡_, refl}
 use mathlib.Core.Bool.{true, false}
 use mathlib.Core.Logic.{_⊎_, inl, inr, ⊎-elim}
-use Rattle.signer.proofs.ChoiceLaws.{if-true, if-false}
+use Rattle.signer.proofs.ConditionalLaws.{if-true, if-false}
 use Rattle.delivery.specs.Limits.{Limits}
 use Rattle.delivery.proofs.TestLaws.{decided}
 use Rattle.vote.specs.Turns.{turnNumber}
@@ -31,7 +31,7 @@ use Rattle.bench.specs.declared.answer.Answer.the-variants.{
   AtEnd,
   NotSigned,
   NotAbove,
-  HasIt,
+  AlreadyDelivered,
   NotDecided,
   FewBallots,
   MustWait,
@@ -81,7 +81,7 @@ answer-within WrongStart = number-within NotStarted
 answer-within AtEnd = number-within Ended
 answer-within NotSigned = inr (omega arith, omega arith)
 answer-within NotAbove = inr (omega arith, omega arith)
-answer-within HasIt = inr (omega arith, omega arith)
+answer-within AlreadyDelivered = inr (omega arith, omega arith)
 answer-within NotDecided = inr (omega arith, omega arith)
 answer-within FewBallots = inr (omega arith, omega arith)
 answer-within MustWait = number-within Waiting

@@ -1,8 +1,8 @@
 -- Laws of what an accepted event does, by its kind. Assumes nothing.
 use borrow.Author.Tests.{ne-eqb}
 use mathlib.Core.Path.{_≡_, _∙_}
-use Rattle.signer.specs.Choice.{if_then_else_}
-use Rattle.signer.proofs.ChoiceLaws.{if-false}
+use Rattle.signer.specs.Conditional.{if_then_else_}
+use Rattle.signer.proofs.ConditionalLaws.{if-false}
 use Rattle.delivery.specs.Limits.{Limits}
 use Rattle.vote.specs.Boards.{propose, suspect, trust}
 use Rattle.vote.specs.Announcements.{announce}

@@ -1,6 +1,6 @@
 -- The worked examples, by computation: every definition that they come to is opened here. Assumes nothing.
 use mathlib.Core.Path.{refl}
-use Rattle.signer.specs.Choice.{if_then_else_}
+use Rattle.signer.specs.Conditional.{if_then_else_}
 use Rattle.signer.specs.FromOne.{isWithin, nth, setNth}
 use Rattle.signer.specs.Log.{valueOf, emptyLog, entryAt, withEntry}
 use Rattle.signer.specs.Signer.{freshSigner, grants, sign}

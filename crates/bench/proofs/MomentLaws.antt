@@ -6,7 +6,7 @@ use lib.Dec.{eqb}
 use mathlib.Core.Path.{_≡_, refl, sym, ap, subst, _∙_}
 use mathlib.Core.List.{[], _∷_, _++_, append-assoc}
 use mathlib.Core.Logic.{_⊎_, inl, inr}
-use Rattle.signer.proofs.ChoiceLaws.{if-true, if-false}
+use Rattle.signer.proofs.ConditionalLaws.{if-true, if-false}
 use Rattle.delivery.specs.Limits.{Limits}
 use Rattle.delivery.proofs.TestLaws.{and-in, and-no-left, and-no-right}
 use Rattle.bench.specs.Story.{Entry, History, Standing, believing, afterEntry, afterEntries, standingAfter, outset}

@@ -11,11 +11,11 @@ use lib.Dec.{eqb}
 use lib.ListN.{length, getD, set}
 use lib.Seq.{set-getD}
 use Rattle.signer.specs.FromOne.{isWithin, nth, setNth}
-use Rattle.signer.specs.Choice.{if_then_else_}
+use Rattle.signer.specs.Conditional.{if_then_else_}
 use Rattle.signer.specs.Log.{entryAt}
 use Rattle.signer.specs.Signer.{freshSigner, sign}
 use Rattle.signer.specs.declared.signer.Signer.{Signer}
-use Rattle.signer.proofs.ChoiceLaws.{if-true, if-false}
+use Rattle.signer.proofs.ConditionalLaws.{if-true, if-false}
 use Rattle.signer.proofs.FromOneLaws.{within-low, within-high, within-in, nth-any, setNth-index, set-back}
 use Rattle.delivery.specs.Tests.{_or_}
 use Rattle.delivery.specs.Limits.{Limits}

@@ -12,7 +12,7 @@ use lib.ListN.{length, drop, set, length-append, length-drop, List·getD-append}
 use lib.Seq.{sets, sets-eq, drop-drop}
 use Rattle.signer.specs.FromOne.{nth}
 use Rattle.signer.proofs.FromOneLaws.{nth-index}
-use Rattle.signer.proofs.ChoiceLaws.{if-true, if-elim}
+use Rattle.signer.proofs.ConditionalLaws.{if-true, if-elim}
 use Rattle.delivery.specs.Limits.{Limits}
 use Rattle.bench.specs.Events.{highFirst, eventBytes, eventFrom}
 use Rattle.bench.specs.Setups.{freshBench}

@@ -8,11 +8,11 @@ use mathlib.Core.Logic.{⊎-elim}
 use lib.Dec.{eqb}
 use lib.ListN.{length-replicate}
 use Rattle.signer.specs.FromOne.{isWithin, nth}
-use Rattle.signer.specs.Choice.{if_then_else_}
+use Rattle.signer.specs.Conditional.{if_then_else_}
 use Rattle.signer.specs.Log.{entryAt, entryOf}
 use Rattle.signer.specs.Signer.{freshSigner}
 use Rattle.signer.specs.declared.signer.Signer.{Signer}
-use Rattle.signer.proofs.ChoiceLaws.{if-true, if-elim}
+use Rattle.signer.proofs.ConditionalLaws.{if-true, if-elim}
 use Rattle.signer.proofs.FromOneLaws.{within-low, within-high, within-out}
 use Rattle.signer.proofs.SignerLaws.{WellFormed, fresh-last, fresh-unsigned, fresh-wellformed}
 use Rattle.delivery.specs.Limits.{Limits, limits}

@@ -6,8 +6,8 @@ use mathlib.Core.Path.{_≡_, sym, ap, refl, _∙_}
 use mathlib.Core.Bool.{true, false}
 use mathlib.Core.Logic.{_⊎_, inl, inr, _↔_}
 use Rattle.signer.specs.FromOne.{isWithin}
-use Rattle.signer.specs.Choice.{if_then_else_}
-use Rattle.signer.proofs.ChoiceLaws.{if-true, if-false}
+use Rattle.signer.specs.Conditional.{if_then_else_}
+use Rattle.signer.proofs.ConditionalLaws.{if-true, if-false}
 use Rattle.delivery.specs.Limits.{Limits}
 use Rattle.delivery.proofs.TestLaws.{decided}
 use Rattle.vote.specs.declared.position.Position.{Position}

@@ -7,7 +7,7 @@ use mathlib.Core.List.{List, _∷_}
 use lib.Dec.{eqb}
 use borrow.Author.Tests.{eq-eqb}
 use Rattle.signer.specs.FromOne.{isWithin}
-use Rattle.signer.proofs.ChoiceLaws.{if-true, if-false}
+use Rattle.signer.proofs.ConditionalLaws.{if-true, if-false}
 use Rattle.delivery.specs.Tests.{_and_, _or_, neg}
 use Rattle.delivery.proofs.TestLaws.{and-yes-left, and-no-left, and-under, or-left, or-right, or-no, or-no-left, or-no-right, or-false-left, or-false-right, neg-false}
 use Rattle.bench.specs.Events.{delivering, announcing, suspecting, trusting, signing, usesOther, usesId}

@@ -16,7 +16,7 @@ use Rattle.bench.specs.declared.answer.Answer.the-variants.{
   AtEnd,
   NotSigned,
   NotAbove,
-  HasIt,
+  AlreadyDelivered,
   NotDecided,
   FewBallots,
   MustWait,
@@ -42,7 +42,7 @@ answerNumber WrongStart = turnNumber NotStarted
 answerNumber AtEnd = turnNumber Ended
 answerNumber NotSigned = 17
 answerNumber NotAbove = 18
-answerNumber HasIt = 19
+answerNumber AlreadyDelivered = 19
 answerNumber NotDecided = 20
 answerNumber FewBallots = 21
 answerNumber MustWait = turnNumber Waiting

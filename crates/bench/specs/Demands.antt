@@ -87,6 +87,6 @@ pub record Demand3 : Type 0 where
       → (es : List Event) (p : Playings (f .bench) es) → let os = outcomes (f .bench) es p in
       Agreement limits n marks (historyBy es os) (lastBench (f .bench) os)
 
--- the same of a list of bytes that was lent with room for answers, and of what stands there once it was played
+-- the history of a list that was lent as bytes: its events, with the answers as they stand in the buffer afterwards
 abbrev pub playedHistory : List ℕ → List ℕ → History
-playedHistory bs room = historyOf (eventsPlayed bs (length room)) room
+playedHistory bs buf = historyOf (eventsPlayed bs (length buf)) buf

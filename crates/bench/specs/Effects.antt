@@ -2,7 +2,7 @@
 use Prim.Native.Nat.{ℕ}
 use lib.Dec.{eqb}
 use Rattle.signer.specs.FromOne.{setNth}
-use Rattle.signer.specs.Choice.{if_then_else_}
+use Rattle.signer.specs.Conditional.{if_then_else_}
 use Rattle.signer.specs.Signer.{sign}
 use Rattle.delivery.specs.Limits.{Limits}
 use Rattle.delivery.specs.Owed.{afterSigning, afterDelivery}

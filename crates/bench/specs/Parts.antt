@@ -5,7 +5,7 @@ use mathlib.Core.Path.{_≡_}
 use mathlib.Core.Bool.{Bool, true, false}
 use lib.Dec.{eqb}
 use Rattle.signer.specs.FromOne.{isWithin, setNth}
-use Rattle.signer.specs.Choice.{if_then_else_}
+use Rattle.signer.specs.Conditional.{if_then_else_}
 use Rattle.signer.specs.Log.{entryAt}
 use Rattle.signer.specs.Signer.{sign}
 use Rattle.signer.specs.declared.signer.Signer.{Signer}

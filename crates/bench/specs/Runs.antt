@@ -3,7 +3,7 @@ use Prim.Native.Nat.{ℕ, zero, suc, _/_, _%_}
 use mathlib.Core.List.{List, [], _∷_, _++_}
 use lib.Dec.{eqb, leb}
 use lib.ListN.{length, drop}
-use Rattle.signer.specs.Choice.{if_then_else_}
+use Rattle.signer.specs.Conditional.{if_then_else_}
 use Rattle.delivery.specs.Limits.{Limits}
 use Rattle.bench.specs.Events.{eventBytes, eventFrom}
 use Rattle.bench.specs.Setups.{freshAnswer, freshBench}

@@ -5,7 +5,7 @@ use mathlib.Core.List.{List}
 use lib.Dec.{eqb, leb}
 use lib.ListN.{replicate}
 use Rattle.signer.specs.FromOne.{nth}
-use Rattle.signer.specs.Choice.{if_then_else_}
+use Rattle.signer.specs.Conditional.{if_then_else_}
 use Rattle.signer.specs.Signer.{freshSigner}
 use Rattle.delivery.specs.Counting.{everyIn}
 use Rattle.delivery.specs.Limits.{Limits}

@@ -1,7 +1,7 @@
 -- Document 01, "Schedule file and program": what a bench shows of a board, and the letters.
 use Prim.Native.Nat.{ℕ}
 use Rattle.signer.specs.FromOne.{isWithin}
-use Rattle.signer.specs.Choice.{if_then_else_}
+use Rattle.signer.specs.Conditional.{if_then_else_}
 use Rattle.delivery.specs.Limits.{Limits}
 use Rattle.vote.specs.declared.position.Position.{Position}
 use Rattle.vote.specs.declared.board.Status.{Status}

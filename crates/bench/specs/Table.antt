@@ -5,7 +5,7 @@ use mathlib.Core.Bool.{Bool, true, false}
 use mathlib.Core.List.{List, [], _∷_}
 use lib.Dec.{eqb, leb, ltb}
 use Rattle.signer.specs.FromOne.{isWithin}
-use Rattle.signer.specs.Choice.{if_then_else_}
+use Rattle.signer.specs.Conditional.{if_then_else_}
 use Rattle.signer.specs.Log.{isIdentifier, entryOf}
 use Rattle.signer.specs.Signer.{grants}
 use Rattle.signer.specs.declared.signer.Signer.{Signer}
@@ -36,7 +36,7 @@ use Rattle.bench.specs.declared.answer.Answer.the-variants.{
   AtEnd,
   NotSigned,
   NotAbove,
-  HasIt,
+  AlreadyDelivered,
   NotDecided,
   FewBallots,
   MustWait,
@@ -146,7 +146,7 @@ stateRows L c e =
     ∷ (endRow L c e, AtEnd)
     ∷ (signedRow L c e, NotSigned)
     ∷ (lastRow L c e, NotAbove)
-    ∷ (deliveredRow L c e, HasIt)
+    ∷ (deliveredRow L c e, AlreadyDelivered)
     ∷ (announcerRow L c e, NotDecided)
     ∷ (ballotsRow L c e, FewBallots)
     ∷ (turnRow L c e, MustWait)

@@ -280,7 +280,7 @@ impl Event {
             return Answer::NotAbove;
         }
         if self.delivered_row(a) {
-            return Answer::HasIt;
+            return Answer::AlreadyDelivered;
         }
         if self.announcer_row(rest.sound, rest.decided) {
             return Answer::NotDecided;

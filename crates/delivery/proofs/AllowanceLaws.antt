@@ -9,9 +9,9 @@ use mathlib.Core.Bool.{Bool, true, true≢false}
 use mathlib.Core.Logic.{_⊎_, inl, inr, ⊎-elim}
 use mathlib.Core.List.{List}
 use lib.ListN.{length}
-use Rattle.signer.specs.Choice.{if_then_else_}
+use Rattle.signer.specs.Conditional.{if_then_else_}
 use Rattle.signer.specs.Log.{entryOf}
-use Rattle.signer.proofs.ChoiceLaws.{if-elim}
+use Rattle.signer.proofs.ConditionalLaws.{if-elim}
 use Rattle.delivery.specs.Tests.{_or_}
 use Rattle.delivery.specs.Counting.{countIn, countOf}
 use Rattle.delivery.specs.Limits.{Limits}

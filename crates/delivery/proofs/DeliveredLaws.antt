@@ -11,7 +11,7 @@ use lib.Dec.{eqb}
 use lib.ListN.{length, length-replicate}
 use Rattle.signer.specs.FromOne.{setNth}
 use Rattle.signer.specs.Log.{isIdentifier, entryOf}
-use Rattle.signer.proofs.ChoiceLaws.{if-elim, if-true, if-false}
+use Rattle.signer.proofs.ConditionalLaws.{if-elim, if-true, if-false}
 use Rattle.signer.proofs.FromOneLaws.{nth-none, setNth-none, length-setNth, nth-set-same, nth-replicate, within-low, nth-change}
 use Rattle.delivery.specs.Limits.{Limits}
 use Rattle.delivery.specs.Bus.{isBoard}

@@ -6,7 +6,7 @@ use native.Mathlib.Omega.{arith}
 use native.Mathlib.Nat.{suc-mul, mul-le-mul-right}
 use native.Mathlib.Decide.{decLt}
 use Rattle.signer.specs.Log.{isIdentifier}
-use Rattle.signer.proofs.ChoiceLaws.{if-elim, if-true, if-false}
+use Rattle.signer.proofs.ConditionalLaws.{if-elim, if-true, if-false}
 use Rattle.signer.proofs.FromOneLaws.{within-high, within-low}
 use Rattle.delivery.specs.Tests.{_and_}
 use Rattle.delivery.specs.Limits.{Limits}

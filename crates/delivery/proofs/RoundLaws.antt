@@ -6,7 +6,7 @@ use native.Mathlib.Omega.{arith}
 use native.Mathlib.Nat.{mod-lt}
 use borrow.Author.Tests.{lt-ltb, le-ltb}
 use lib.Dec.{ltb}
-use Rattle.signer.proofs.ChoiceLaws.{if-true, if-false}
+use Rattle.signer.proofs.ConditionalLaws.{if-true, if-false}
 use Rattle.signer.specs.Log.{isIdentifier}
 use Rattle.signer.proofs.FromOneLaws.{within-low, within-high, within-in}
 use Rattle.delivery.specs.Limits.{Limits}

@@ -40,8 +40,8 @@ use lib.Bits.{
   or-shifted-r,
 }
 use lib.Count.{ones, ones-cat}
-use Rattle.signer.specs.Choice.{if_then_else_}
-use Rattle.signer.proofs.ChoiceLaws.{if-true, if-false}
+use Rattle.signer.specs.Conditional.{if_then_else_}
+use Rattle.signer.proofs.ConditionalLaws.{if-true, if-false}
 use Rattle.delivery.specs.Tests.{_and_, _or_, neg}
 use Rattle.delivery.specs.Counting.{plus, countIn}
 use Rattle.delivery.specs.Sets.{inSet, setOf, bits, withBoard, withoutBoard, union, minus}

@@ -4,7 +4,7 @@ use mathlib.Core.List.{List}
 use lib.Dec.{eqb}
 use lib.ListN.{replicate}
 use Rattle.signer.specs.FromOne.{nth, setNth}
-use Rattle.signer.specs.Choice.{if_then_else_}
+use Rattle.signer.specs.Conditional.{if_then_else_}
 use Rattle.signer.specs.Log.{isIdentifier, entryOf}
 use Rattle.delivery.specs.Tests.{_and_}
 use Rattle.delivery.specs.Limits.{Limits}

@@ -6,7 +6,7 @@ use mathlib.Core.Path.{_≡_, refl}
 use mathlib.Core.Bool.{false}
 use lib.Dec.{eqb}
 use Rattle.signer.specs.FromOne.{isWithin}
-use Rattle.signer.specs.Choice.{if_then_else_}
+use Rattle.signer.specs.Conditional.{if_then_else_}
 use Rattle.signer.specs.Log.{identifiers, entryOf}
 use Rattle.delivery.specs.Tests.{neg}
 use Rattle.delivery.specs.Limits.{limits}

@@ -4,7 +4,7 @@ use Prim.Native.Nat.{ℕ, suc, _+_, _-_, _*_, _%_}
 use mathlib.Core.Bool.{Bool}
 use lib.Dec.{ltb}
 use Rattle.signer.specs.FromOne.{isWithin}
-use Rattle.signer.specs.Choice.{if_then_else_}
+use Rattle.signer.specs.Conditional.{if_then_else_}
 use Rattle.delivery.specs.Limits.{Limits}
 use Rattle.delivery.specs.declared.round.Phase.{Phase}
 use Rattle.delivery.specs.declared.round.Phase.the-variants.{Opening, Ballot}

@@ -1,7 +1,7 @@
 ghost use Prim.Native.Nat.{ℕ, _+_, _-_, min};
 ghost use mathlib.Core.Path.{_≡_};
 ghost use lib.Dec.{eqb, leb};
-ghost use Rattle.signer.specs.Choice.{if_then_else_};
+ghost use Rattle.signer.specs.Conditional.{if_then_else_};
 ghost use Rattle.delivery.specs.Tests.{_and_, _or_};
 ghost use Rattle.delivery.specs.Counting.{countIn};
 ghost use Rattle.delivery.specs.Limits.{limits};

@@ -3,7 +3,7 @@ use native.Mathlib.Omega.{arith}
 use mathlib.Core.Path.{_≡_, refl, sym, ap, _∙_}
 use mathlib.Core.List.{[], _∷_, flatMap}
 use Rattle.signer.specs.FromOne.{isWithin, nth}
-use Rattle.signer.specs.Choice.{if_then_else_}
+use Rattle.signer.specs.Conditional.{if_then_else_}
 use Rattle.signer.specs.Examples.{letter-d}
 use Rattle.delivery.specs.Limits.{limits}
 use Rattle.delivery.specs.Examples.{letter-a, letter-b, letter-c}

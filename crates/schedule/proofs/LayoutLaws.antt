@@ -9,8 +9,8 @@ use mathlib.Core.List.{List, [], _∷_, _++_, flatMap, append-assoc, append-nil}
 use mathlib.Core.Logic.{_⊎_, ⊎-elim}
 use lib.Dec.{leb}
 use lib.ListN.{length, drop}
-use Rattle.signer.specs.Choice.{if_then_else_}
-use Rattle.signer.proofs.ChoiceLaws.{if-true, if-false}
+use Rattle.signer.specs.Conditional.{if_then_else_}
+use Rattle.signer.proofs.ConditionalLaws.{if-true, if-false}
 use Rattle.delivery.specs.Limits.{Limits}
 use Rattle.delivery.specs.Bus.{isBoard}
 use Rattle.delivery.proofs.TestLaws.{decided}

@@ -10,8 +10,8 @@ use mathlib.Core.Logic.{_⊎_, inl, inr, ⊎-elim}
 use lib.Dec.{leb}
 use lib.ListN.{length, take, drop, length-append, length-take, length-drop, take-append-drop}
 use lib.Seq.{take-all, drop-append-le}
-use Rattle.signer.specs.Choice.{if_then_else_}
-use Rattle.signer.proofs.ChoiceLaws.{if-true, if-false}
+use Rattle.signer.specs.Conditional.{if_then_else_}
+use Rattle.signer.proofs.ConditionalLaws.{if-true, if-false}
 use Rattle.signer.proofs.FromOneLaws.{within-high}
 use Rattle.delivery.specs.Limits.{Limits}
 use Rattle.delivery.specs.Bus.{isBoard}

@@ -12,7 +12,7 @@ use mathlib.Core.List.{List, [], _∷_, _++_}
 use lib.Dec.{leb, ltb}
 use lib.ListN.{length, set, length-append}
 use lib.Seq.{sets, length-sets}
-use Rattle.signer.proofs.ChoiceLaws.{if-elim, if-true, if-false}
+use Rattle.signer.proofs.ConditionalLaws.{if-elim, if-true, if-false}
 use Rattle.delivery.specs.Limits.{limits}
 use Rattle.bench.specs.declared.show.Shown.{Shown}
 use Rattle.bench.proofs.RunLaws.{sets-written}

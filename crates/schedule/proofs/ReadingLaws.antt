@@ -7,8 +7,8 @@ use mathlib.Core.Bool.{Bool, true, false, true≢false}
 use mathlib.Core.List.{List, [], _∷_, _++_}
 use mathlib.Core.Logic.{_⊎_, inl, inr, ⊎-elim}
 use lib.ListN.{length}
-use Rattle.signer.specs.Choice.{if_then_else_}
-use Rattle.signer.proofs.ChoiceLaws.{if-true, if-false}
+use Rattle.signer.specs.Conditional.{if_then_else_}
+use Rattle.signer.proofs.ConditionalLaws.{if-true, if-false}
 use Rattle.delivery.proofs.TestLaws.{decided}
 use Rattle.schedule.specs.Files.{Reading, got, fault, next, byteDue, manyDue, answerOf}
 use Rattle.schedule.specs.declared.answer.Fault.{Fault}

@@ -6,7 +6,7 @@ use lib.ListN.{length}
 use lib.Seq.{sets}
 use mathlib.Core.Path.{_≡_}
 use Rattle.signer.specs.FromOne.{nth}
-use Rattle.signer.specs.Choice.{if_then_else_}
+use Rattle.signer.specs.Conditional.{if_then_else_}
 use Rattle.delivery.specs.Limits.{Limits}
 use Rattle.bench.specs.Runs.{after, answersTo, written}
 use Rattle.bench.specs.Shows.{letterByte, shown}

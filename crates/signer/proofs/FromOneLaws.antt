@@ -13,7 +13,7 @@ use native.Mathlib.Decide.{ℕ-discrete, decLt}
 use lib.ListN.{length, getD, set, replicate, length-set, List·getD-eq-default}
 use lib.Seq.{getD-set-same, getD-set-other, set-out, set-getD}
 use Rattle.signer.specs.FromOne.{isWithin, nth, setNth}
-use Rattle.signer.proofs.ChoiceLaws.{and-left, and-right}
+use Rattle.signer.proofs.ConditionalLaws.{and-left, and-right}
 
 -- the numbers from 1 to a limit
 module _ (limit k : ℕ) where

@@ -1,5 +1,5 @@
 pub mod FromOneLaws
-pub mod ChoiceLaws
+pub mod ConditionalLaws
 pub mod LogLaws
 pub mod SignerLaws
 pub mod HistoryLaws

@@ -10,7 +10,7 @@ use lib.Dec.{leb}
 use lib.ListN.{length, getD, set, length-replicate}
 use Rattle.signer.specs.Log.{values, valueOf, entryOf, isIdentifier, emptyLog, entryAt, withEntry}
 use Rattle.signer.specs.declared.log.Log.{Log}
-use Rattle.signer.proofs.ChoiceLaws.{if-true, if-false, if-elim}
+use Rattle.signer.proofs.ConditionalLaws.{if-true, if-false, if-elim}
 use Rattle.signer.proofs.FromOneLaws.{within-low, within-high, within-out, nth-index, nth-after, setNth-index, nth-none, setNth-none, length-setNth, nth-set-same, nth-set-other, nth-replicate}
 
 -- an entry's value, where it stands for one, and where it stands for none

@@ -10,7 +10,7 @@ use Rattle.signer.specs.Log.{isIdentifier, entryOf, entryAt}
 use Rattle.signer.specs.Signer.{freshSigner, Signed, grants, sign}
 use Rattle.signer.specs.declared.signer.Signer.{Signer}
 use Rattle.signer.specs.declared.signer.Signing.{Signing}
-use Rattle.signer.proofs.ChoiceLaws.{if-elim, and-left, and-right}
+use Rattle.signer.proofs.ConditionalLaws.{if-elim, and-left, and-right}
 use Rattle.signer.proofs.LogLaws.{Whole, empty-whole, with-whole, entry-empty, entry-same, entry-other, entry-elim}
 use Rattle.signer.proofs.FromOneLaws.{within-high}
 

@@ -4,7 +4,7 @@ use Prim.Native.Nat.{ℕ, zero, suc}
 use mathlib.Core.Bool.{Bool}
 use lib.Dec.{leb}
 use lib.ListN.{replicate}
-use Rattle.signer.specs.Choice.{if_then_else_}
+use Rattle.signer.specs.Conditional.{if_then_else_}
 use Rattle.signer.specs.FromOne.{isWithin, nth, setNth}
 use Rattle.signer.specs.declared.log.Log.{Log}
 

@@ -4,7 +4,7 @@ use mathlib.Core.Path.{_≡_}
 use mathlib.Core.Bool.{Bool, true, false, _&&_}
 use mathlib.Core.List.{List, [], _∷_, List·Memᴰ}
 use lib.Dec.{ltb}
-use Rattle.signer.specs.Choice.{if_then_else_}
+use Rattle.signer.specs.Conditional.{if_then_else_}
 use Rattle.signer.specs.Log.{entryOf, isIdentifier, emptyLog, entryAt, withEntry}
 use Rattle.signer.specs.declared.signer.Signer.{Signer}
 use Rattle.signer.specs.declared.signer.Signing.{Signing}

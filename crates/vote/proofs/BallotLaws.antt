@@ -8,7 +8,7 @@ use mathlib.Core.Bool.{Bool, true, false, true≢false}
 use mathlib.Core.Logic.{inr}
 use lib.Dec.{eqb, leb}
 use Rattle.signer.specs.Log.{values, valueOf, entryOf}
-use Rattle.signer.proofs.ChoiceLaws.{if-elim, if-true}
+use Rattle.signer.proofs.ConditionalLaws.{if-elim, if-true}
 use Rattle.signer.proofs.LogLaws.{value-entry, value-within, entry-value}
 use Rattle.delivery.specs.Tests.{_and_, neg}
 use Rattle.delivery.specs.Counting.{countIn}

@@ -22,7 +22,7 @@ use Rattle.delivery.proofs.GrowthLaws.{Grows, grows-same, allowed-grows}
 use Rattle.vote.specs.Ballots.{tally}
 use Rattle.vote.specs.Boards.{freshPosition, freshBoard, isStarted, hears}
 use Rattle.vote.specs.Rule.{carried}
-use Rattle.vote.specs.Calls.{Call, proposal, own-turn, delivery, suspicion, trusting, announcement, called, after}
+use Rattle.vote.specs.Calls.{Call, proposal, own-turn, delivery, suspicion, restored-trust, announcement, called, after}
 use Rattle.vote.specs.declared.position.Position.{Position}
 use Rattle.vote.specs.declared.position.Stage.{Stage}
 use Rattle.vote.specs.declared.position.Stage.the-variants.{Vote, Count}
@@ -91,7 +91,7 @@ Fits (proposal v) = v ≤ values
 Fits own-turn = Unit {0}
 Fits (delivery s) = s .value ≤ values
 Fits (suspicion k) = Unit {0}
-Fits (trusting k) = Unit {0}
+Fits (restored-trust k) = Unit {0}
 Fits (announcement r v) = Unit {0}
 
 -- a fresh board is one
@@ -202,7 +202,7 @@ module _ (L : Limits) (n me : ℕ) (b : Board) (some : 1 ≤ n) (p : Proper L b)
   called-admitted own-turn l = course-admitted _ (turn-course L n me b)
   called-admitted (delivery s) l = subst⁻¹ (Admitted L n) (deliver-hears L b s) (listens s l (b .position .stage) (b .status) (λ f. f))
   called-admitted (suspicion k) l = subst⁻¹ (Admitted L n) (suspect-adds b k) (stays (b .position .stage) _ (b .status) (λ f. f))
-  called-admitted (trusting k) l = subst⁻¹ (Admitted L n) (trust-drops b k) (stays (b .position .stage) _ (b .status) (λ f. f))
+  called-admitted (restored-trust k) l = subst⁻¹ (Admitted L n) (trust-drops b k) (stays (b .position .stage) _ (b .status) (λ f. f))
   called-admitted (announcement r v) l =
       ⊎-elim
       (λ e. subst⁻¹ (Admitted L n) e a)

@@ -13,7 +13,7 @@ use Rattle.delivery.proofs.GrowthLaws.{Grows, grows-same, grows-on, won-grows}
 use Rattle.vote.specs.Boards.{freshBoard, isStarted, isDecided, isEnded, decisionOf, propose, deliverTo, suspect, trust, suspecting}
 use Rattle.vote.specs.Turns.{turn}
 use Rattle.vote.specs.Announcements.{announce}
-use Rattle.vote.specs.Calls.{Call, proposal, own-turn, delivery, suspicion, trusting, announcement, called, after, signedIn, put, statements}
+use Rattle.vote.specs.Calls.{Call, proposal, own-turn, delivery, suspicion, restored-trust, announcement, called, after, signedIn, put, statements}
 use Rattle.vote.specs.declared.statement.Statement.{Statement}
 use Rattle.vote.specs.declared.statement.Said.{Said}
 use Rattle.vote.specs.declared.statement.Said.the-variants.{Nothing, One}
@@ -48,9 +48,9 @@ module _ (L : Limits) (n me : ℕ) (b : Board) where
   unfolding called
   called-suspicion k = refl
 
-  pub called-trusting : (k : ℕ) → called L n me b (trusting k) ≡ trust b k
+  pub called-trust : (k : ℕ) → called L n me b (restored-trust k) ≡ trust b k
   unfolding called
-  called-trusting k = refl
+  called-trust k = refl
 
   pub called-announcement : (r v : ℕ) → called L n me b (announcement r v) ≡ announce L n b r v
   unfolding called
@@ -78,7 +78,7 @@ module _ (L : Limits) (n me : ℕ) (b : Board) where
   called-grows own-turn = course-grows _ (turn-course L n me b)
   called-grows (delivery s) = subst⁻¹ from (deliver-hears L b s) (hears-grows L (b .delivered) s)
   called-grows (suspicion k) = subst⁻¹ from (suspect-adds b k) (grows-same (store L b))
-  called-grows (trusting k) = subst⁻¹ from (trust-drops b k) (grows-same (store L b))
+  called-grows (restored-trust k) = subst⁻¹ from (trust-drops b k) (grows-same (store L b))
   called-grows (announcement r v) =
       ⊎-elim
       (λ e. subst⁻¹ from e (grows-same (store L b)))
@@ -92,7 +92,7 @@ module _ (L : Limits) (n me : ℕ) (b : Board) where
   called-final d e own-turn = ap (λ (t : Turn). t .board .status) (turn-ended L n me b (ap isEnded e ∙ ended-decided d)) ∙ e
   called-final d e (delivery s) = ap (λ (x : Board). x .status) (deliver-hears L b s) ∙ e
   called-final d e (suspicion k) = ap (λ (x : Board). x .status) (suspect-adds b k) ∙ e
-  called-final d e (trusting k) = ap (λ (x : Board). x .status) (trust-drops b k) ∙ e
+  called-final d e (restored-trust k) = ap (λ (x : Board). x .status) (trust-drops b k) ∙ e
   called-final d e (announcement r v) =
       ⊎-elim
       (λ i. ap (λ (x : Board). x .status) i ∙ e)
@@ -125,7 +125,7 @@ module _ (L : Limits) (n me : ℕ) (b : Board) where
   called-won own-turn d i = course-won _ (turn-course L n me b) d i
   called-won (delivery s) d i = inl (sym (ap (λ (x : Board). x .status) (deliver-hears L b s)) ∙ i)
   called-won (suspicion k) d i = inl (sym (ap (λ (x : Board). x .status) (suspect-adds b k)) ∙ i)
-  called-won (trusting k) d i = inl (sym (ap (λ (x : Board). x .status) (trust-drops b k)) ∙ i)
+  called-won (restored-trust k) d i = inl (sym (ap (λ (x : Board). x .status) (trust-drops b k)) ∙ i)
   called-won (announcement r v) d i =
       ⊎-elim
       (λ e. inl (sym (ap (λ (x : Board). x .status) e) ∙ i))
@@ -211,7 +211,7 @@ module _ (L : Limits) (n me : ℕ) (b : Board) (p : Proper L b) where
   called-due own-turn = turn-due L n me b (voting-round L b p)
   called-due (delivery s) = rw (deliver-hears L b s) (omega arith)
   called-due (suspicion k) = rw (suspect-adds b k, due-same L (suspecting b (withBoard (b .position .suspected) k) .position) (b .position) (b .status) refl refl) (omega arith)
-  called-due (trusting k) = rw (trust-drops b k, due-same L (suspecting b (withoutBoard (b .position .suspected) k) .position) (b .position) (b .status) refl refl) (omega arith)
+  called-due (restored-trust k) = rw (trust-drops b k, due-same L (suspecting b (withoutBoard (b .position .suspected) k) .position) (b .position) (b .status) refl refl) (omega arith)
   called-due (announcement r v) =
       ⊎-elim
       (λ (e : announce L n b r v ≡ b). rw e (omega arith))
@@ -228,7 +228,7 @@ module _ (L : Limits) (n me : ℕ) (b : Board) (p : Proper L b) where
   signed-next own-turn s e = (signs-due L n me b s (turn-signs L n me b s e), signed-past L n me b s e (voting-round L b p))
   signed-next (delivery x) s e = absurd (nothing-one s e)
   signed-next (suspicion k) s e = absurd (nothing-one s e)
-  signed-next (trusting k) s e = absurd (nothing-one s e)
+  signed-next (restored-trust k) s e = absurd (nothing-one s e)
   signed-next (announcement r v) s e = absurd (nothing-one s e)
 
   put-rising : (c : Call) (x : Said) (ss : List Statement) → signedIn L n me b c ≡ x → Rising (due L (called L n me b c)) ss

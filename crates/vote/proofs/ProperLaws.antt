@@ -13,7 +13,7 @@ use Rattle.delivery.specs.Sets.{withBoard, withoutBoard}
 use Rattle.delivery.specs.declared.delivered.Delivered.{Delivered}
 use Rattle.delivery.proofs.DeliveredLaws.{Whole, nothing-whole}
 use Rattle.vote.specs.Boards.{freshBoard, isStarted, suspecting}
-use Rattle.vote.specs.Calls.{Call, proposal, own-turn, delivery, suspicion, trusting, announcement, called}
+use Rattle.vote.specs.Calls.{Call, proposal, own-turn, delivery, suspicion, restored-trust, announcement, called}
 use Rattle.vote.specs.declared.position.Stage.{Stage}
 use Rattle.vote.specs.declared.position.Stage.the-variants.{Vote, Count}
 use Rattle.vote.specs.declared.board.Board.{Board}
@@ -127,7 +127,7 @@ module _ (L : Limits) (b : Board) (p : Proper L b) where
       (deliver-hears L b s)
       (record { whole = hears-whole L (b .delivered) s (p .whole); round = p .round; estimate = p .estimate; spent = p .spent })
   called-proper n me some (suspicion k) = subst⁻¹ (Proper L) (suspect-adds b k) (suspecting-proper (withBoard (b .position .suspected) k))
-  called-proper n me some (trusting k) = subst⁻¹ (Proper L) (trust-drops b k) (suspecting-proper (withoutBoard (b .position .suspected) k))
+  called-proper n me some (restored-trust k) = subst⁻¹ (Proper L) (trust-drops b k) (suspecting-proper (withoutBoard (b .position .suspected) k))
   called-proper n me some (announcement r v) =
       ⊎-elim
       (λ e. subst⁻¹ (Proper L) e p)

@@ -3,7 +3,7 @@
 use Prim.Native.Nat.{ℕ}
 use mathlib.Core.Bool.{Bool, true, false}
 use lib.Dec.{eqb}
-use Rattle.signer.specs.Choice.{if_then_else_}
+use Rattle.signer.specs.Conditional.{if_then_else_}
 use Rattle.delivery.specs.Tests.{_and_, _or_}
 use Rattle.delivery.specs.Limits.{Limits}
 use Rattle.delivery.specs.Sets.{withBoard, withoutBoard}

@@ -10,24 +10,24 @@ use Rattle.vote.specs.declared.statement.Said.{Said}
 use Rattle.vote.specs.declared.statement.Said.the-variants.{Nothing, One}
 use Rattle.vote.specs.declared.statement.Statement.{Statement}
 
--- what can be asked of a board: document 01's kinds 1 to 6, from the side of the board that they are for. An announcement
--- has a round and a value.
+-- what can be asked of a board: document 01's kinds 1 to 6, in their order, from the side of the board that they are for.
+-- An announcement has a round and a value.
 pub data Call : Type 0 where
   proposal : ℕ → Call
   own-turn : Call
   delivery : Statement → Call
-  suspicion : ℕ → Call
-  trusting : ℕ → Call
   announcement : ℕ → ℕ → Call
+  suspicion : ℕ → Call
+  restored-trust : ℕ → Call
 
 -- board `me` of n after one call, and after a list of them
 unfoldable pub called : Limits → ℕ → ℕ → Board → Call → Board
 called L n me b (proposal v) = propose b v
 called L n me b own-turn = turn L n me b .board
 called L n me b (delivery s) = deliverTo L b s
-called L n me b (suspicion k) = suspect b k
-called L n me b (trusting k) = trust b k
 called L n me b (announcement r v) = announce L n b r v
+called L n me b (suspicion k) = suspect b k
+called L n me b (restored-trust k) = trust b k
 
 unfoldable pub after : Limits → ℕ → ℕ → Board → List Call → Board
 after L n me b [] = b
@@ -38,9 +38,9 @@ unfoldable pub signedIn : Limits → ℕ → ℕ → Board → Call → Said
 signedIn L n me b (proposal v) = Nothing
 signedIn L n me b own-turn = turn L n me b .signed
 signedIn L n me b (delivery s) = Nothing
-signedIn L n me b (suspicion k) = Nothing
-signedIn L n me b (trusting k) = Nothing
 signedIn L n me b (announcement r v) = Nothing
+signedIn L n me b (suspicion k) = Nothing
+signedIn L n me b (restored-trust k) = Nothing
 
 unfoldable pub put : Said → List Statement → List Statement
 put Nothing ss = ss

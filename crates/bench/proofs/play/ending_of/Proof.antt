@@ -1,7 +1,7 @@
 -- `ending_of` meets its contract: the tests are those of the definition. Assumes nothing.
 use borrow.Author.Tests.{eq-eqb, ne-eqb, le-leb, lt-leb}
 use mathlib.Core.Path.{sym, _∙_}
-use Rattle.signer.proofs.ChoiceLaws.{if-true, if-false}
+use Rattle.signer.proofs.ConditionalLaws.{if-true, if-false}
 use Rattle.bench.specs.Runs.{endingOf}
 use Rattle.bench.proofs.play.ending_of.Statement.{statement}
 use Rattle.bench.proofs.play.ending_of.Tie as tie

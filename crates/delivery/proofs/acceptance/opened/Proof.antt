@@ -3,7 +3,7 @@ use Prim.Native.Nat.{_≤_, _<_}
 use borrow.Author.Tests.{le-leb, lt-leb, eq-eqb, ne-eqb}
 use native.Mathlib.Omega.{arith}
 use mathlib.Core.Path.{sym}
-use Rattle.signer.proofs.ChoiceLaws.{if-true, if-false}
+use Rattle.signer.proofs.ConditionalLaws.{if-true, if-false}
 use Rattle.delivery.proofs.TestLaws.{and-in, and-no-left, and-no-right, or-left, or-right, or-no}
 use Rattle.delivery.proofs.acceptance.opened.Statement.{statement}
 use Rattle.delivery.proofs.acceptance.opened.Tie as tie

@@ -5,7 +5,7 @@ use borrow.Author.Needs.{needs}
 use borrow.Author.Tests.{le-leb, lt-leb}
 use native.Mathlib.Omega.{arith}
 use mathlib.Core.Path.{sym, _∙_}
-use Rattle.signer.proofs.ChoiceLaws.{if-true, if-false}
+use Rattle.signer.proofs.ConditionalLaws.{if-true, if-false}
 use Rattle.delivery.proofs.TestLaws.{and-in, and-no-left}
 use Rattle.delivery.proofs.acceptance.settled.Statement.{statement}
 use Rattle.delivery.proofs.acceptance.settled.Tie as tie

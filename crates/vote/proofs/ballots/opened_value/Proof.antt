@@ -2,7 +2,7 @@
 use borrow.Author.Needs.{needs}
 use mathlib.Core.Path.{_≡_, sym, ap, _∙_}
 use Rattle.signer.specs.Log.{valueOf}
-use Rattle.signer.proofs.ChoiceLaws.{if-true, if-false}
+use Rattle.signer.proofs.ConditionalLaws.{if-true, if-false}
 use Rattle.delivery.specs.Limits.{limits}
 use Rattle.delivery.specs.Delivered.{heardIn}
 use Rattle.delivery.specs.Acceptance.{openingEntry}

@@ -4,7 +4,7 @@ use Prim.Native.Nat.{ℕ}
 use borrow.Author.Tests.{not-true, not-false}
 use mathlib.Core.List.{List}
 use mathlib.Core.Path.{_≡_, sym, _∙_}
-use Rattle.signer.proofs.ChoiceLaws.{if-true, if-false}
+use Rattle.signer.proofs.ConditionalLaws.{if-true, if-false}
 use Rattle.signer.proofs.FromOneLaws.{within-high}
 use Rattle.delivery.specs.Limits.{limits}
 use Rattle.bench.specs.Setups.{freshAnswer, setupBy, benchOf, freshBench, freshOf}

@@ -3,7 +3,7 @@
 use borrow.Author.Needs.{needs}
 use borrow.Author.Tests.{not-true, not-false}
 use mathlib.Core.Path.{sym, _∙_}
-use Rattle.signer.proofs.ChoiceLaws.{if-true, if-false}
+use Rattle.signer.proofs.ConditionalLaws.{if-true, if-false}
 use Rattle.bench.specs.Shows.{shown}
 use Rattle.bench.proofs.bench.Bench.shown.Statement.{statement}
 use Rattle.bench.proofs.bench.Bench.shown.Tie as tie

@@ -12,7 +12,7 @@ use Rattle.bench.specs.Benches.{boardAt, signerAt, signedBy}
 use Rattle.bench.specs.Table.{boardsRow, firstOf, stateRows}
 use Rattle.bench.specs.Parts.{Has}
 use Rattle.bench.specs.declared.bench.Bench.{Bench}
-use Rattle.bench.specs.declared.answer.Answer.the-variants.{WrongStart, AtEnd, NotSigned, NotAbove, HasIt, NotDecided, FewBallots}
+use Rattle.bench.specs.declared.answer.Answer.the-variants.{WrongStart, AtEnd, NotSigned, NotAbove, AlreadyDelivered, NotDecided, FewBallots}
 use Rattle.bench.proofs.AnswerLaws.{start-refused, end-refused}
 use Rattle.bench.proofs.TableLaws.{delivers-other, announces-other, boards-a, boards-b, first-takes, first-skips}
 use Rattle.bench.proofs.PartLaws.{stands, last-row}
@@ -115,7 +115,7 @@ returns-5 c b h g =
     let o : On (c .before .before .before .before .before .before .before .before .before .before) = record { bench = b; has = h; seated = g } in
     past4 (c .before .before) o
     ∙ first-takes _ _ _ (sym (c .before .delivered-row .ensures b (a-board _ o)) ∙ c .if5 .taken)
-    ∙ sym (stands HasIt _ refl)
+    ∙ sym (stands AlreadyDelivered _ refl)
 
 past5 : (c : tie.Else5) (o : On (c .before .before .before .before .before .before .before .before .before .before)) → Past (c .before .before .before .before .before .before .before .before .before .before) o 5
 past5 c o =

@@ -2,7 +2,7 @@
 use borrow.Author.Needs.{needs}
 use borrow.Author.Tests.{eq-eqb, ne-eqb}
 use mathlib.Core.Path.{sym}
-use Rattle.signer.proofs.ChoiceLaws.{if-true, if-false}
+use Rattle.signer.proofs.ConditionalLaws.{if-true, if-false}
 use Rattle.bench.specs.Effects.{withBoardAt, withOwed, afterSaying, afterHearing}
 use Rattle.bench.specs.Parts.{owedBy}
 use Rattle.bench.proofs.event.Event.owed.Statement.{statement}

@@ -1,7 +1,7 @@
 -- `Signer::sign` meets its contract. Assumes nothing.
 use borrow.Author.Needs.{needs}
 use borrow.Author.Tests.{not-true, not-false}
-use Rattle.signer.specs.Choice.{if_then_else_}
+use Rattle.signer.specs.Conditional.{if_then_else_}
 use Rattle.signer.specs.Signer.{sign}
 use Rattle.signer.proofs.signer.Signer.sign.Statement.{statement}
 use Rattle.signer.proofs.signer.Signer.sign.Tie as tie

@@ -3,7 +3,7 @@ use borrow.Author.Needs.{needs}
 use borrow.Author.Tests.{not-true, not-false, eq-eqb, ne-eqb, lt-leb, le-leb}
 use mathlib.Core.Path.{sym, ap₂, _∙_}
 use lib.Dec.{leb}
-use Rattle.signer.proofs.ChoiceLaws.{if-true, if-false}
+use Rattle.signer.proofs.ConditionalLaws.{if-true, if-false}
 use Rattle.delivery.proofs.TestLaws.{and-in, and-no-left, and-no-right, neg-no, neg-in}
 use Rattle.vote.specs.Boards.{withStatus}
 use Rattle.vote.specs.Announcements.{convinced, announce}

@@ -2,7 +2,7 @@
 use borrow.Author.Needs.{needs}
 use borrow.Author.Tests.{eq-eqb, ne-eqb}
 use mathlib.Core.Path.{sym, _∙_}
-use Rattle.signer.proofs.ChoiceLaws.{if-true, if-false}
+use Rattle.signer.proofs.ConditionalLaws.{if-true, if-false}
 use Rattle.delivery.proofs.TestLaws.{or-left, or-right, or-no}
 use Rattle.vote.specs.Boards.{propose}
 use Rattle.vote.proofs.board.Board.propose.Statement.{statement}
