@@ -7,7 +7,7 @@ use Rattle.bench.specs.Answers.{answerNumber}
 use Rattle.bench.specs.Effects.{stepOf}
 use Rattle.bench.specs.declared.bench.Bench.{Bench}
 use Rattle.bench.specs.declared.event.Event.{Event}
-use Rattle.schedule.specs.Files.{Reading, got, fault, File, firstBench, fileDue}
+use Rattle.schedule.specs.Files.{Reading, got, fault, Contents, firstBench, fileDue}
 use Rattle.fenderacai.specs.Rows.{row}
 
 -- the rows of a list of events
@@ -17,7 +17,7 @@ rowsOf L c (e ∷ es) =
     row L (answerNumber (stepOf L c e .answer)) (stepOf L c e .bench) ++ rowsOf L (stepOf L c e .bench) es
 
 -- a file's trace
-unfoldable pub tracedFrom : Limits → Reading File → List ℕ
+unfoldable pub tracedFrom : Limits → Reading Contents → List ℕ
 tracedFrom L (got f rest) =
     let c = firstBench L f in row L 0 c ++ rowsOf L c (f .events)
 tracedFrom L (fault f) = []

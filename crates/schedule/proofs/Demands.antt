@@ -12,7 +12,7 @@ use Rattle.bench.specs.Runs.{after}
 use Rattle.bench.specs.Shows.{shown}
 use Rattle.bench.specs.declared.show.Shown.{Shown}
 use Rattle.bench.proofs.SetupLaws.{board-made}
-use Rattle.schedule.specs.Files.{Reading, got, fault, File, firstBench, fileDue, answerOf}
+use Rattle.schedule.specs.Files.{Reading, got, fault, Contents, firstBench, fileDue, answerOf}
 use Rattle.schedule.specs.Layouts.{All, none, more, Holdable}
 use Rattle.schedule.specs.Prints.{partsTo, boardLine, boardLines, refusedLine, printedFrom}
 use Rattle.schedule.specs.Demands.{Demand1, Demand2}
@@ -33,7 +33,7 @@ board-some : (k : ℕ) (s : Shown) → 0 < length (boardLine k s)
 board-some k s = omega (arith, board-length k s)
 
 -- so there is always a report: a file that is taken has a board, and the line of one that is refused begins with a word
-print-some : (p : Reading File) → ((f : File) (rest : List ℕ) → p ≡ got f rest → Holdable limits f) → 0 < length (printedFrom limits p)
+print-some : (p : Reading Contents) → ((f : Contents) (rest : List ℕ) → p ≡ got f rest → Holdable limits f) → 0 < length (printedFrom limits p)
 unfolding printedFrom refusedLine
 print-some (got f rest) h =
     let c = after limits (firstBench limits f) (f .events) in

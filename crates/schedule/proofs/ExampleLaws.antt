@@ -12,14 +12,14 @@ use Rattle.bench.specs.Answers.{freshNumber}
 use Rattle.bench.specs.Shows.{letterByte}
 use Rattle.bench.specs.Examples.{alone}
 use Rattle.bench.proofs.ExampleLaws as bench
-use Rattle.schedule.specs.Files.{faultNumber, next, byteDue, manyDue, markDue, busDue, File, fileDue}
+use Rattle.schedule.specs.Files.{faultNumber, next, byteDue, manyDue, markDue, busDue, Contents, fileDue}
 use Rattle.schedule.specs.Layouts.{laid, none, more, Holdable}
 use Rattle.schedule.specs.Prints.{decimalIn, decimal, partsTo, eventLine, boardLine, refusedLine, printedFrom}
 use Rattle.schedule.specs.Examples.{wholeCase, LetterL, Letters, RefusedFiles}
 use Rattle.schedule.proofs.LayoutLaws.{file-read}
 
 -- the whole case is the bytes of one sound board and of the bench's example of a board alone
-whole : File
+whole : Contents
 whole = record { marks = 0 ∷ []; events = alone }
 
 laid-whole : laid whole ≡ wholeCase

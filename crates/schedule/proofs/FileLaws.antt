@@ -21,7 +21,7 @@ use Rattle.schedule.specs.Files.{
   countBytes,
   sectionDue,
   nothingLeft,
-  File,
+  Contents,
   fileDue,
   answerOf,
 }
@@ -126,12 +126,12 @@ section-refused bs w t = go (sectionDue bs) t
     go (fault v) a = let same : v ≡ w = cc in ap fault same
 
 -- nothing may follow the last event
-left-over : (f : File) (bs : List ℕ) → 0 < length bs → nothingLeft f bs ≡ fault LeftOver
+left-over : (f : Contents) (bs : List ℕ) → 0 < length bs → nothingLeft f bs ≡ fault LeftOver
 unfolding nothingLeft
 left-over f [] h = absurd (omega arith)
 left-over f (b ∷ bs) h = refl
 
-left-none : (f : File) (bs : List ℕ) → length bs ≡ 0 → nothingLeft f bs ≡ got f []
+left-none : (f : Contents) (bs : List ℕ) → length bs ≡ 0 → nothingLeft f bs ≡ got f []
 unfolding nothingLeft
 left-none f [] h = refl
 left-none f (b ∷ bs) h = absurd (omega arith)

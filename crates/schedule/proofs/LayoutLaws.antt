@@ -32,7 +32,7 @@ use Rattle.schedule.specs.Files.{
   eventDue,
   sectionDue,
   nothingLeft,
-  File,
+  Contents,
   fileDue,
 }
 use Rattle.schedule.specs.Layouts.{twoBytes, eventLaid, laid, All, none, more, Bytes, Holdable}
@@ -287,16 +287,16 @@ section-read es rest h =
     ∙ events-flat-read es rest
 
 -- and a whole file
-end-went : (x : File) (bs : List ℕ) (y : File) (rest : List ℕ) → nothingLeft x bs ≡ got y rest
+end-went : (x : Contents) (bs : List ℕ) (y : Contents) (rest : List ℕ) → nothingLeft x bs ≡ got y rest
     → (bs ≡ []) × (x ≡ y) × (rest ≡ [])
 unfolding nothingLeft
 end-went x [] y rest e = (refl, got-value x y [] rest e, sym (got-rest x y [] rest e))
 end-went x (b ∷ bs) y rest e = absurd (got-no-fault y rest LeftOver (sym e))
 
-abbrev file : List ℕ → List Event → File
+abbrev file : List ℕ → List Event → Contents
 file ms es = record { marks = ms; events = es }
 
-pub file-laid : (L : Limits) (bs : List ℕ) (f : File) (rest : List ℕ) → fileDue L bs ≡ got f rest
+pub file-laid : (L : Limits) (bs : List ℕ) (f : Contents) (rest : List ℕ) → fileDue L bs ≡ got f rest
     → (Bytes bs → bs ≡ laid f) × Holdable L f
 unfolding fileDue laid
 file-laid L bs f rest e = first (next-went _ (busDue L bs) (got f rest) e)
@@ -316,7 +316,7 @@ file-laid L bs f rest e = first (next-went _ (busDue L bs) (got f rest) e)
             let end = end-went (file ms es) ds f rest g in
             let s = section-laid cs es ds e in
             subst
-            (λ (h : File). (Bytes bs → bs ≡ length (h .marks) ∷ h .marks ++ twoBytes (length (h .events)) ++ flatMap eventLaid (h .events)) × Holdable L h)
+            (λ (h : Contents). (Bytes bs → bs ≡ length (h .marks) ∷ h .marks ++ twoBytes (length (h .events)) ++ flatMap eventLaid (h .events)) × Holdable L h)
             (end .1) (
               λ b. bus .0 b
                   ∙ ap (λ (xs : List ℕ). length ms ∷ ms ++ xs) (s .0 (bytes-rest (length ms ∷ ms) cs (subst Bytes (bus .0 b) b)) ∙ ap (λ (xs : List ℕ). sectionLaid es ++ xs) (end .0) ∙ append-nil (sectionLaid es))
@@ -324,7 +324,7 @@ file-laid L bs f rest e = first (next-went _ (busDue L bs) (got f rest) e)
               record { boards = bus .1; marks = bus .2; few = s .1 },
             )
 
-pub file-read : (L : Limits) (f : File) → Holdable L f → fileDue L (laid f) ≡ got f []
+pub file-read : (L : Limits) (f : Contents) → Holdable L f → fileDue L (laid f) ≡ got f []
 unfolding fileDue laid nothingLeft
 file-read L f h =
     ap

@@ -16,7 +16,7 @@ use Rattle.bench.specs.declared.bench.Bench.{Bench}
 use Rattle.bench.specs.declared.event.Event.{Event}
 use Rattle.bench.proofs.SetupLaws.{fresh-alike}
 use Rattle.bench.proofs.RunLaws.{length-answers, played-bench, played-answers, nth-written}
-use Rattle.schedule.specs.Files.{Reading, got, fault, countBytes, mostEvents, eventsDue, File, firstBench, fileDue, answerOf}
+use Rattle.schedule.specs.Files.{Reading, got, fault, countBytes, mostEvents, eventsDue, Contents, firstBench, fileDue, answerOf}
 use Rattle.schedule.specs.Layouts.{twoBytes, eventLaid, laid, Holdable}
 use Rattle.schedule.specs.Readings.{padded, scheduleFrom, scheduleOf}
 use Rattle.schedule.specs.Prints.{eventLine, eventLines, boardLines, refusedLine, printedFrom, printed}
@@ -62,7 +62,7 @@ events-laid es =
 
 -- what was read of a file
 pub record FileRead (L : Limits) (bs : List ℕ) (s : Schedule) : Type 0 where
-  pub file : File
+  pub file : Contents
   pub rest : List ℕ
   pub due : fileDue L bs ≡ got file rest
   pub read : s ≡ scheduleFrom L (got file rest)
@@ -73,7 +73,7 @@ pub file-taken : (L : Limits) (bs : List ℕ) (s : Schedule) → ((i : ℕ) → 
 unfolding scheduleFrom
 file-taken L bs s u e t = go (fileDue L bs) refl (sym (ap (λ (x : Schedule). x .answer) e) ∙ t)
   where
-    go : (p : Reading File) → fileDue L bs ≡ p → scheduleFrom L p .answer ≡ Taken → FileRead L bs s
+    go : (p : Reading Contents) → fileDue L bs ≡ p → scheduleFrom L p .answer ≡ Taken → FileRead L bs s
     go (fault w) g a = let z : _≡_ {A = ℕ} 0 1 = cc in absurd (omega arith)
     go (got f cs) g a =
         let l = file-laid L bs f cs g in
@@ -83,13 +83,13 @@ file-taken L bs s u e t = go (fileDue L bs) refl (sym (ap (λ (x : Schedule). x 
 pub refused-print : (L : Limits) (bs : List ℕ) (w : Fault) → fileDue L bs ≡ fault w
     → (scheduleOf L bs .count ≡ 0) × (printed L bs ≡ refusedLine w)
 unfolding scheduleFrom printedFrom
-refused-print L bs w e = (ap (λ (p : Reading File). scheduleFrom L p .count) e, ap (printedFrom L) e)
+refused-print L bs w e = (ap (λ (p : Reading Contents). scheduleFrom L p .count) e, ap (printedFrom L) e)
 
 pub file-fault : (L : Limits) (bs : List ℕ) (w : Fault) → scheduleOf L bs .answer ≡ Refused w → fileDue L bs ≡ fault w
 unfolding scheduleFrom answerOf
 file-fault L bs w t = answer-fault (fileDue L bs) w (sym (file-answer (fileDue L bs)) ∙ t)
   where
-    file-answer : (p : Reading File) → scheduleFrom L p .answer ≡ answerOf p
+    file-answer : (p : Reading Contents) → scheduleFrom L p .answer ≡ answerOf p
     file-answer (got f cs) = refl
     file-answer (fault v) = refl
 

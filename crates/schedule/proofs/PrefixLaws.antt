@@ -35,7 +35,7 @@ use Rattle.schedule.specs.Files.{
   eventDue,
   sectionDue,
   nothingLeft,
-  File,
+  Contents,
   fileDue,
   longestFile,
 }
@@ -150,7 +150,7 @@ section-steady =
     steady-wider (manyDue eventDue k) (eventBytes * k) (eventBytes * mostEvents) (omega (arith, few)) (steady-many eventDue eventBytes k event-steady))
 
 -- a file but for its end: n, the marks and the events, whatever follows
-abbrev untilEnd : Limits → List ℕ → Reading File
+abbrev untilEnd : Limits → List ℕ → Reading Contents
 untilEnd L bs = next (busDue L bs) (λ ms rest. next (sectionDue rest) (λ es rest′. got (record { marks = ms; events = es }) rest′))
 
 until-steady : (L : Limits) → Steady (untilEnd L) (longestFile L)
@@ -178,11 +178,11 @@ overlong : (L : Limits) (bs more : List ℕ) → longestFile L < length bs → f
 unfolding nothingLeft
 overlong L bs more h = sym (then-end L (bs ++ more)) ∙ go (untilEnd L bs) refl ∙ then-end L bs
   where
-    left : (f : File) (cs : List ℕ) → 0 < length cs → nothingLeft f (cs ++ more) ≡ nothingLeft f cs
+    left : (f : Contents) (cs : List ℕ) → 0 < length cs → nothingLeft f (cs ++ more) ≡ nothingLeft f cs
     left f [] l = absurd (omega (arith, l))
     left f (c ∷ cs) l = refl
 
-    go : (p : Reading File) → untilEnd L bs ≡ p → next (untilEnd L (bs ++ more)) nothingLeft ≡ next (untilEnd L bs) nothingLeft
+    go : (p : Reading Contents) → untilEnd L bs ≡ p → next (untilEnd L (bs ++ more)) nothingLeft ≡ next (untilEnd L bs) nothingLeft
     go (got f rest) e =
         next-got nothingLeft _ f (rest ++ more) (until-steady L .goes bs more f rest e)
         ∙ left f rest (omega (arith, until-steady L .takes bs f rest e, h))

@@ -7,7 +7,7 @@ use lib.ListN.{length, take}
 use Rattle.delivery.specs.Limits.{limits}
 use Rattle.bench.specs.Setups.{freshAnswer}
 use Rattle.bench.specs.declared.answer.FreshAnswer.the-variants.{Made}
-use Rattle.schedule.specs.Files.{fileNumber, got, File, fileDue, answerOf, longestFile}
+use Rattle.schedule.specs.Files.{fileNumber, got, Contents, fileDue, answerOf, longestFile}
 use Rattle.schedule.specs.Layouts.{laid, Bytes, Holdable}
 use Rattle.schedule.specs.Readings.{scheduleOf}
 use Rattle.schedule.specs.Prints.{refusedLine, printed}
@@ -26,13 +26,13 @@ pub record Demand1 : Type 0 where
   pub reported : (bs : List ℕ) → 0 < length (printed limits bs)
   pub refused : (bs : List ℕ) (w : Fault) → answerOf (fileDue limits bs) ≡ Refused w
       → (scheduleOf limits bs .count ≡ 0) × (printed limits bs ≡ refusedLine w)
-  pub made : (bs : List ℕ) (f : File) (rest : List ℕ) → fileDue limits bs ≡ got f rest
+  pub made : (bs : List ℕ) (f : Contents) (rest : List ℕ) → fileDue limits bs ≡ got f rest
       → freshAnswer limits (length (f .marks)) (f .marks) ≡ Made
   pub any-length : (bs : List ℕ) → fileDue limits (take (longestFile limits + 1) bs) ≡ fileDue limits bs
 
 -- Demand 2: a file is read as exactly what its bytes mean. What it is read as, laid out in bytes, is the file itself; and
 -- every schedule that a file can hold, laid out in bytes, is read as itself.
 pub record Demand2 : Type 0 where
-  pub exact : (bs : List ℕ) → Bytes bs → (f : File) (rest : List ℕ) → fileDue limits bs ≡ got f rest
+  pub exact : (bs : List ℕ) → Bytes bs → (f : Contents) (rest : List ℕ) → fileDue limits bs ≡ got f rest
       → (bs ≡ laid f) × Holdable limits f
-  pub whole : (f : File) → Holdable limits f → fileDue limits (laid f) ≡ got f []
+  pub whole : (f : Contents) → Holdable limits f → fileDue limits (laid f) ≡ got f []

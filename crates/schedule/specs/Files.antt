@@ -93,16 +93,17 @@ unfoldable pub nothingLeft : {A : Type 0} → A → List ℕ → Reading A
 nothingLeft x [] = got x []
 nothingLeft x (b ∷ bs) = fault LeftOver
 
--- a file: the marks of its boards, and its events
-pub record File : Type 0 where
+-- what a file holds: the marks of its boards, and its events
+pub record Contents : Type 0 where
   pub marks : List ℕ
   pub events : List Event
 
 -- the fresh bench that its events begin on
-abbrev pub firstBench : Limits → File → Bench
+abbrev pub firstBench : Limits → Contents → Bench
 firstBench L f = freshBench L (length (f .marks)) (f .marks)
 
-unfoldable pub fileDue : Limits → List ℕ → Reading File
+-- a file as a whole
+unfoldable pub fileDue : Limits → List ℕ → Reading Contents
 fileDue L bs =
     next
     (busDue L bs)

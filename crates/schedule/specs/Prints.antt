@@ -12,7 +12,7 @@ use Rattle.bench.specs.Runs.{after, answersTo, written}
 use Rattle.bench.specs.Shows.{letterByte, shown}
 use Rattle.bench.specs.declared.bench.Bench.{Bench}
 use Rattle.bench.specs.declared.show.Shown.{Shown}
-use Rattle.schedule.specs.Files.{faultNumber, mostEvents, Reading, got, fault, File, firstBench, fileDue}
+use Rattle.schedule.specs.Files.{faultNumber, mostEvents, Reading, got, fault, Contents, firstBench, fileDue}
 use Rattle.schedule.specs.declared.answer.Fault.{Fault}
 use Rattle.schedule.specs.declared.report.Report.{Report}
 use Rattle.schedule.specs.declared.report.Report.the-variants.{Written, Short}
@@ -71,7 +71,7 @@ refusedLine f = line (refusedWord ∷ decimal (faultNumber f) ∷ [])
 
 -- a file's whole report: a line per event and a line per board, after its events were played from the fresh bench of its
 -- marks; a refused file's only line
-unfoldable pub printedFrom : Limits → Reading File → List ℕ
+unfoldable pub printedFrom : Limits → Reading Contents → List ℕ
 printedFrom L (got f rest) =
     let c = firstBench L f in
     eventLines (length (f .events)) (answersTo L c (f .events))

@@ -4,7 +4,7 @@ use mathlib.Core.List.{List, [], _++_}
 use lib.ListN.{length, replicate}
 use Rattle.delivery.specs.Limits.{Limits}
 use Rattle.bench.specs.declared.event.Event.{Event}
-use Rattle.schedule.specs.Files.{Reading, got, fault, busDue, countBytes, sectionDue, File, fileDue}
+use Rattle.schedule.specs.Files.{Reading, got, fault, busDue, countBytes, sectionDue, Contents, fileDue}
 use Rattle.schedule.specs.declared.answer.FileAnswer.the-variants.{Taken, Refused}
 use Rattle.schedule.specs.declared.bus.Bus.{Bus}
 use Rattle.schedule.specs.declared.section.Section.{Section}
@@ -32,7 +32,7 @@ abbrev pub sectionOf : List ℕ → Section
 sectionOf bs = sectionFrom (sectionDue bs)
 
 -- a whole file: its boards, how many events it has, and where in the file they begin
-unfoldable pub scheduleFrom : Limits → Reading File → Schedule
+unfoldable pub scheduleFrom : Limits → Reading Contents → Schedule
 scheduleFrom L (got f rest) =
     record {
       n = length (f .marks);
