@@ -8,7 +8,7 @@ use Rattle.delivery.specs.Limits.{limits}
 use Rattle.bench.specs.Setups.{setup, freshBench, freshOf}
 use Rattle.bench.specs.Effects.{stepOf}
 use Rattle.bench.specs.Answers.{answerNumber}
-use Rattle.bench.specs.Runs.{after, answersTo}
+use Rattle.bench.specs.Runs.{after, answersTo, benchAfter, answersFrom}
 use Rattle.bench.specs.Story.{History, historyOf}
 use Rattle.bench.specs.Claim.{Agreement}
 use Rattle.bench.specs.Demands.{Demand1, Playing, by-event, by-apply, outcomeOf, Playings, outcomes, steps, Demand2, historyBy, lastBench, Demand3}
@@ -32,10 +32,10 @@ demand-1 =
 
 -- the history of a list of events that the machine plays, and what holds of the bench after it
 abbrev pub historyFrom : ℕ → List ℕ → List Event → History
-historyFrom n marks es = historyOf es (answersTo limits (freshBench limits n marks) es)
+historyFrom n marks es = historyOf es (answersFrom limits n marks es)
 
 sure-played : (n : ℕ) (marks : List ℕ) (es : List Event)
-    → Sure limits (setup limits n marks) (historyFrom n marks es) (after limits (freshBench limits n marks) es)
+    → Sure limits (setup limits n marks) (historyFrom n marks es) (benchAfter limits n marks es)
 unfolding freshBench
 sure-played n marks es =
     sure-after
@@ -49,7 +49,7 @@ sure-played n marks es =
 
 -- agreement, of such a list
 pub agreed : (n : ℕ) (marks : List ℕ) (es : List Event)
-    → Agreement limits n marks (historyFrom n marks es) (after limits (freshBench limits n marks) es)
+    → Agreement limits n marks (historyFrom n marks es) (benchAfter limits n marks es)
 agreed n marks es =
     sure-agrees
     limits
@@ -57,11 +57,11 @@ agreed n marks es =
     marks
     (limits-ground n marks)
     (historyFrom n marks es)
-    (after limits (freshBench limits n marks) es)
+    (benchAfter limits n marks es)
     (sure-played n marks es)
 
--- every list of events can be played so, on every bench
-any-list : (c : Bench) (es : List Event) → Playings c es
+-- every list of events can be played, on every bench: so what is said of a list that is played is said of all
+pub any-list : (c : Bench) (es : List Event) → Playings c es
 unfolding Playings
 any-list c [] = tt
 any-list c (e ∷ es) = (by-event (stepOf limits c e) refl, any-list (stepOf limits c e .bench) es)
@@ -107,7 +107,7 @@ demand-2 =
           (setup limits n marks)
           (limits-ground n marks)
           (historyFrom n marks es)
-          (after limits (freshBench limits n marks) es)
+          (benchAfter limits n marks es)
           (sure-played n marks es);
     }
 

@@ -14,7 +14,7 @@ use Rattle.bench.specs.Benches.{isSound, boardAt, signerAt}
 use Rattle.bench.specs.Setups.{freshBench, freshOf}
 use Rattle.bench.specs.Answers.{freshNumber, answerNumber}
 use Rattle.bench.specs.Effects.{stepOf}
-use Rattle.bench.specs.Runs.{after, eventsPlayed}
+use Rattle.bench.specs.Runs.{benchAfter, eventsPlayed}
 use Rattle.bench.specs.Story.{History, historyOf}
 use Rattle.bench.specs.Claim.{Agreement}
 use Rattle.bench.specs.declared.bench.Bench.{Bench}
@@ -66,7 +66,7 @@ steps c (e ∷ es) = stepOf limits c e ∷ steps (stepOf limits c e .bench) es
 pub record Demand2 : Type 0 where
   pub plays : (n : ℕ) (marks : List ℕ) (f : Fresh) → f ≡ freshOf limits n marks
       → (es : List Event) (p : Playings (f .bench) es) → outcomes (f .bench) es p ≡ steps (freshBench limits n marks) es
-  pub signs : (n : ℕ) (marks : List ℕ) (es : List Event) → let c = after limits (freshBench limits n marks) es in
+  pub signs : (n : ℕ) (marks : List ℕ) (es : List Event) → let c = benchAfter limits n marks es in
       (k : ℕ) → isSound c k ≡ true
       → (s : Statement) → turn limits (c .n) k (boardAt limits c k) .signed ≡ One s
       → grants (limits .identifiers) (signerAt limits c k) (s .id .0) ≡ true
