@@ -37,7 +37,7 @@ use Rattle.bench.proofs.answer.Answer.Laws as N′
 use Rattle.bench.proofs.bench.Bench.apply as apply
 use Rattle.bench.proofs.bench.Bench.apply.Symbol.{name as #apply}
 
--- the machine values
+-- the machine values of a bench, an event and an answer
 abbrev pub bv : Bench → Val
 bv = LL.val B.the-type B′.the-laws
 

@@ -1,6 +1,6 @@
 -- A call that is lent a struct in a local, at any types, as one step of a walk. It says nothing of this crate.
 --     local-in, local-out   between the local's cell with what its type owns, and the struct in memory that `Denote/Lend.antt`'s `lends-ref` takes and `ref-back` gives
---     Lent                  the call: handed a `&mut` to the struct h and the event e, it returns an answer, and leaves another struct behind it, and so they are Φ
+--     Lent                  the call: handed a `&mut` to the struct h and another argument e, it returns a value, and leaves another struct there, and Φ holds of the two
 --     calls-lent            [the local's cell at h; Γ] to [the local's cell at what the call left; Γ]. In between the local is lent for a lifetime that is made for the call and ended after it
 -- Assumes `Given`, `FmC` of the table of calls, and `Lent` of the call.
 use Prim.Native.Nat.{ℕ}

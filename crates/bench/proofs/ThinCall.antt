@@ -1,6 +1,6 @@
 -- A call on a lent struct that forwards to one by value, at any types. It says nothing of this crate.
 --     thin     the MIR of  fn f(&mut self, e: E) -> N { let out = (*self).core(e); *self = out.0; out.1 }
---     Back     what has to be known of the value v that `core` returned: its first field is a struct like the one lent, its second an answer, and so they are Φ
+--     Back     what has to be known of the value v that `core` returned: its first field is a struct like the one lent, its second the answer, and Φ holds of the two
 --     walk     `thin` keeps the borrow, at the struct that `core` returned, and returns the answer
 -- Assumes `Given`, `FmC` of the table of calls, and what is known of `core`.
 use Prim.Native.Nat.{ℕ, zero}
@@ -32,7 +32,7 @@ use denote.Steps.{opens, closes, owned, peeks, heard, nothing}
 use denote.Struct.Steps.{spelt}
 use denote.Triple.Call.{calls-from}
 
--- the struct's type, as it is held and behind a reference, the event's, the answer's, and the fields of what `core` returns
+-- the types: the struct's, as it is held and behind a reference, that of e, the answer's, and the fields of what `core` returns
 module _ (core : Name) (σ ρ ε ν : Ty) (ω : Sym) (fs : Tys) where
   abbrev pub thin : Fn
   thin =
