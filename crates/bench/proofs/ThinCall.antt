@@ -1,6 +1,7 @@
 -- A call on a lent struct that forwards to one by value, at any types. It says nothing of this crate.
 --     thin     the MIR of  fn f(&mut self, e: E) -> N { let out = (*self).core(e); *self = out.0; out.1 }
---     Back     what has to be known of the value v that `core` returned: its first field is a struct like the one lent, its second the answer, and Φ holds of the two
+--     Headed   the value v is a struct whose first field is a struct of the type R, at its machine value
+--     Back     what has to be known of the value v that `core` returned: it is headed by a struct like the one lent, its second field is the answer, and Φ holds of the two
 --     walk     `thin` keeps the borrow, at the struct that `core` returned, and returns the answer
 -- Assumes `Given`, `FmC` of the table of calls, and what is known of `core`.
 use Prim.Native.Nat.{ℕ, zero}
@@ -32,6 +33,14 @@ use denote.Steps.{opens, closes, owned, peeks, heard, nothing}
 use denote.Struct.Steps.{spelt}
 use denote.Triple.Call.{calls-from}
 
+pub record Headed (ω : Sym) (fs : Tys) (R : RattleType) (val : R .Denot → Val) (v : Val) : Type 0 where
+  pub parts : Vals
+  pub spelled : v ≡ vstruct parts
+  pub typed : T (hasTy (tyStruct ω fs) v) × WT v
+  pub head : R .Denot
+  pub head-is : Is R head (val head ∷ [])
+  pub first : getV parts 0 ≡ val head
+
 -- the types: the struct's, as it is held and behind a reference, that of e, the answer's, and the fields of what `core` returns
 module _ (core : Name) (σ ρ ε ν : Ty) (ω : Sym) (fs : Tys) where
   abbrev pub thin : Fn
@@ -50,16 +59,11 @@ module _ (core : Name) (σ ρ ε ν : Ty) (ω : Sym) (fs : Tys) where
 
   module _ (R : RattleType) (val : R .Denot → Val) (Φ : R .Denot → Val → Type 0) where
     pub record Back (v : Val) : Type 0 where
-      pub parts : Vals
-      pub spelled : v ≡ vstruct parts
-      pub typed : T (hasTy (tyStruct ω fs) v) × WT v
-      pub left : R .Denot
-      pub left-is : Is R left (val left ∷ [])
-      pub first : getV parts 0 ≡ val left
+      pub outcome : Headed ω fs R val v
       pub answer : Val
       pub answer-typed : T (hasTy ν answer) × WT answer
-      pub second : getV parts 1 ≡ answer
-      pub so : Φ left answer
+      pub second : getV (outcome .parts) 1 ≡ answer
+      pub so : Φ (outcome .head) answer
 
     module _ {M : Type 1} (𝓤 : URA M) (H : Heap 𝓤) (A : Atoms 𝓤) (W : Given 𝓤 H A) (one : R .mir ≡ σ ∷ []) (tells : Tells R (Is R) (λ x. val x ∷ [])) (makes : Makes 𝓤 H A R (Is R))
         (typed : (x : R .Denot) → Is R x (val x ∷ []) → T (hasTy σ (val x)) × WT (val x)) (d₀ d₁ : ℕ) (at-first : fieldAt zero fs 0 ≡ some (σ, d₀)) (at-second : fieldAt zero fs 1 ≡ some (ν, d₁))
@@ -77,12 +81,12 @@ module _ (core : Name) (σ ρ ε ν : Ty) (ω : Sym) (fs : Tys) where
           assigns ! (of-opd ! (load ! (from ! (hop ! (look ! 10 refl) (stop !))) (look-raw ! 0 refl))) (from ! (stop !)) (init ! 4 refl (typed h was)) $
           nothing ! $ calls-from ! fm (‵ ftrue) (val h ∷ e ∷ []) Q (meets was) (and-then ! (load ! (from ! (stop !)) (look ! 5 refl)) (and-then ! (load ! (from ! (stop !)) (look ! 9 refl)) (no-more !))) (λ v.
           use1 W (later (raw (fact 𝓤 (Back v)))) (told v) $ await ! tt $ heard ! (Back v) (λ back.
-          land ! (from ! (stop !)) (init ! 6 refl (back .typed)) $ rewrite ! 6 (λ (u : Val). ‵ (fat fullShare (tyStruct ω fs) l₃ 0 u)) (back .spelled) refl $
-          assigns ! (of-opd ! (load ! (from ! (fld ! at-first (stop !))) (look-in ! 6 (sub ! 0 at-first (whole !))))) (from ! (hop ! (look ! 10 refl) (stop !))) (store-raw ! 0 refl (subst (λ (u : Val). T (hasTy σ u) × WT u) (sym (back .first)) (typed (back .left) (back .left-is)))) $
+          land ! (from ! (stop !)) (init ! 6 refl (back .outcome .typed)) $ rewrite ! 6 (λ (u : Val). ‵ (fat fullShare (tyStruct ω fs) l₃ 0 u)) (back .outcome .spelled) refl $
+          assigns ! (of-opd ! (load ! (from ! (fld ! at-first (stop !))) (look-in ! 6 (sub ! 0 at-first (whole !))))) (from ! (hop ! (look ! 10 refl) (stop !))) (store-raw ! 0 refl (subst (λ (u : Val). T (hasTy σ u) × WT u) (sym (back .outcome .first)) (typed (back .outcome .head) (back .outcome .head-is)))) $
           assigns ! (of-opd ! (load ! (from ! (fld ! at-second (stop !))) (look-in ! 6 (sub ! 1 at-second (whole !))))) (from ! (stop !)) (init ! 12 refl (subst (λ (u : Val). T (hasTy ν u) × WT u) (sym (back .second)) (back .answer-typed))) $
-          rewrite ! 0 (λ (u : Val). ‵ (fat fullShare (rawTy σ) b o u)) (back .first) refl $ rewrite ! 12 (λ (u : Val). ‵ (fat fullShare ν l₀ 0 u)) (back .second) refl $
-          owned ! R (Is R) makes (back .left) _ (back .left-is) $ move ! (1 ∷ 0 ∷ []) $ rewrite ! 0 (λ (τs : List Ty). ‵ (cellAt fullShare τs (val (back .left) ∷ []) b o)) (sym one) refl $ closes ! tt R (back .left) (val (back .left) ∷ []) b o $
+          rewrite ! 0 (λ (u : Val). ‵ (fat fullShare (rawTy σ) b o u)) (back .outcome .first) refl $ rewrite ! 12 (λ (u : Val). ‵ (fat fullShare ν l₀ 0 u)) (back .second) refl $
+          owned ! R (Is R) makes (back .outcome .head) _ (back .outcome .head-is) $ move ! (1 ∷ 0 ∷ []) $ rewrite ! 0 (λ (τs : List Ty). ‵ (cellAt fullShare τs (val (back .outcome .head) ∷ []) b o)) (sym one) refl $ closes ! tt R (back .outcome .head) (val (back .outcome .head) ∷ []) b o $
           -- [obs; the borrow; the token; _4; …; _3; …; _2; …; _1; …; _0; …]
           returns ! (look ! 11 refl) $ forget ! 3 refl $ forget ! 5 refl $ forget ! 7 refl $ forget ! 9 refl $ forget ! 11 refl $
           move ! (11 ∷ 12 ∷ []) $ free1 ! $ move ! (9 ∷ 10 ∷ []) $ free1 ! $ move ! (7 ∷ 8 ∷ []) $ free1 ! $ move ! (5 ∷ 6 ∷ []) $ free1 ! $ move ! (3 ∷ 4 ∷ []) $ free1 ! $ free0 ! $
-          keep ! (0 ∷ 1 ∷ 2 ∷ []) $ by ! (exits (back .left) (back .answer) (back .so)))))))))))
+          keep ! (0 ∷ 1 ∷ 2 ∷ []) $ by ! (exits (back .outcome .head) (back .answer) (back .so)))))))))))

@@ -1,6 +1,6 @@
 -- `answer_after` meets its contract: a walk of its MIR, by hand, at any types, and then at the bench's. A bench is made in a local, which is lent to `Bench::apply` for a lifetime that is made for the call, and comes back at what `apply` ensures: once before a loop, once in each turn of it, and once after it.
 --     repeated    the MIR of  fn f(n, marks, first, again, times) { let mut bench = make(n, marks).0; bench.apply(first); let mut k = 0; while k < times { bench.apply(again); k += 1; } bench.apply(again) }
---     Made        what has to be known of the value v that `make` returned: its first field is a bench, and that is a start
+--     Made        what has to be known of the value v that `make` returned: it is headed by a bench, and that is a start
 --     Turned      how the loop stands: k turns were made, and of the bench that they left is known So k
 --     turns       a turn of the loop: it makes one more, or the loop is left and the rest of the body runs
 --     walk        the MIR up to the loop, and the loop by `Types/Run.antt`'s `loops`, with what k is short of t for the variant
@@ -20,8 +20,7 @@ use lib.Dec.{T, ltb, ltb→lt, nltb→le, lit<}
 use lib.ListN.{replicate}
 use lib.WfN.{Nat·lt-wfRel}
 use mir.Syntax.{Sym, Name, Ty, Tys, tyInt, tyBool, tyArray, tyRef, tyStruct, w8, erased, mut, place, field, unsigned, copy, int, rvOpd, op2, add, lt, addrOf, Body, skip as skipᴹ, seq, assign, block, loop, cond, exit, call, return, local, valueLocal, memorySlot, Fn}
-use mir.Val.{Val, Vals, vint, vstruct, hasTy, WT}
-use mir.Fields.{getV}
+use mir.Val.{Val, vint, hasTy, WT}
 use base.Logic.{SProp, ent, emp, via, fst∗, snd∗, exE, id⊢}
 use base.Fml.{GName, ftrue, fat, froom, fdies}
 use prog.Memory.{Memory, fieldAt}
@@ -65,6 +64,7 @@ use Rattle.bench.specs.declared.answer.Answer.{Answer}
 use Rattle.bench.specs.declared.event.Event.{Event}
 use Rattle.bench.specs.declared.fresh.Fresh.{Fresh}
 use Rattle.bench.proofs.RunLaws.{after-nil, after-cons}
+use Rattle.bench.proofs.ThinCall.{Headed}
 use Rattle.bench.proofs.LentCall.{Lent, calls-lent}
 use Rattle.bench.proofs.LentBench.{bv, ev, Applied, Ap, applies}
 use Rattle.bench.proofs.bench.Bench as B
@@ -131,13 +131,8 @@ module _ (make apply : Name) (η μ ε ν σ ρ : Ty) (ω : Sym) (fs : Tys) wher
 
   module _ (R : RattleType) (val : R .Denot → Val) where
     record Made (Start : R .Denot → Type 0) (v : Val) : Type 0 where
-      parts : Vals
-      spelled : v ≡ vstruct parts
-      typed : T (hasTy (tyStruct ω fs) v) × WT v
-      bench : R .Denot
-      bench-is : Is R bench (val bench ∷ [])
-      first : getV parts 0 ≡ val bench
-      so : Start bench
+      fresh : Headed ω fs R val v
+      so : Start (fresh .head)
 
     record Turned (t : ℕ) (So : ℕ → R .Denot → Type 0) : Type 0 where
       k : ℕ
@@ -227,16 +222,16 @@ module _ (make apply : Name) (η μ ε ν σ ρ : Ty) (ω : Sym) (fs : Tys) wher
           -- [_14; …; _13; …; and so on to room for _0; …]
           nothing ! $ calls-from ! fm (‵ ftrue) (n ∷ m ∷ []) Q meets (and-then ! (load ! (from ! (stop !)) (look ! 27 refl)) (and-then ! (load ! (from ! (stop !)) (look ! 25 refl)) (no-more !))) (λ v.
           use1 W (later (raw (fact 𝓤 (Made Start v)))) (made v) $ await ! tt $ heard ! (Made Start v) (λ new.
-          land ! (from ! (stop !)) (init ! 12 refl (new .typed)) $ rewrite ! 12 (λ (u : Val). ‵ (fat fullShare (tyStruct ω fs) l₈ 0 u)) (new .spelled) refl $
-          assigns ! (of-opd ! (load ! (from ! (fld ! at-first (stop !))) (look-in ! 12 (sub ! 0 at-first (whole !))))) (from ! (stop !)) (init ! 16 refl (subst (λ (u : Val). T (hasTy σ u) × WT u) (sym (new .first)) (typed (new .bench) (new .bench-is)))) $
-          rewrite ! 16 (λ (u : Val). ‵ (fat fullShare σ l₆ 0 u)) (new .first) refl $ move ! (16 ∷ []) $
+          land ! (from ! (stop !)) (init ! 12 refl (new .fresh .typed)) $ rewrite ! 12 (λ (u : Val). ‵ (fat fullShare (tyStruct ω fs) l₈ 0 u)) (new .fresh .spelled) refl $
+          assigns ! (of-opd ! (load ! (from ! (fld ! at-first (stop !))) (look-in ! 12 (sub ! 0 at-first (whole !))))) (from ! (stop !)) (init ! 16 refl (subst (λ (u : Val). T (hasTy σ u) × WT u) (sym (new .fresh .first)) (typed (new .fresh .head) (new .fresh .head-is)))) $
+          rewrite ! 16 (λ (u : Val). ‵ (fat fullShare σ l₆ 0 u)) (new .fresh .first) refl $ move ! (16 ∷ []) $
           -- [_6; _14; …; and so on to _7; …; what frees _6; _5; …; and so on to room for _0; …]
           assigns ! (addr ! (from ! (stop !))) (from ! (stop !)) (init ! 9 refl (tt, tt)) $
-          calls-lent ! R σ one val tells makes fm l₆ (new .bench) (new .bench-is) x (Φ (new .bench)) (λ α δ. lent-x (new .bench) α l₆ δ) (λ i j. and-then ! (load ! (from ! (stop !)) (look ! 10 refl)) (and-then ! (load ! (from ! (stop !)) (look ! 23 refl)) (no-more !))) (λ w h is so.
+          calls-lent ! R σ one val tells makes fm l₆ (new .fresh .head) (new .fresh .head-is) x (Φ (new .fresh .head)) (λ α δ. lent-x (new .fresh .head) α l₆ δ) (λ i j. and-then ! (load ! (from ! (stop !)) (look ! 10 refl)) (and-then ! (load ! (from ! (stop !)) (look ! 23 refl)) (no-more !))) (λ w h is so.
           land ! (from ! (stop !)) (init ! 11 refl (Φ-typed _ _ w so)) $
           assigns ! (of-opd ! (lit ! tt)) (from ! (stop !)) (init ! 15 refl (tt, record { fits = lit< tt })) $ forget ! 9 refl $ forget ! 11 refl $ forget ! 13 refl $
           first ! $ blocks ! $ loops ! 𝓣 Nearer Nearer-wf (At l₀ l₁ l₂ l₃ l₄ l₅ l₆ l₇ l₈ l₉ l₁₀ l₁₁ l₁₂ l₁₃ l₁₄) (turns l₀ l₁ l₂ l₃ l₄ l₅ l₆ l₇ l₈ l₉ l₁₀ l₁₁ l₁₂ l₁₃ l₁₄)
-          (record { k = 0; within = zero-le; bench = h; bench-is = is; so = starts (new .bench) h w (new .so) so })))))))))))))))))))
+          (record { k = 0; within = zero-le; bench = h; bench-is = is; so = starts (new .fresh .head) h w (new .so) so })))))))))))))))))))
 
 -- at the bench's types. The marks:
 abbrev Marks : RattleType
@@ -292,12 +287,15 @@ module _ {M : Type 1} (𝓤 : URA M) (H : Heap 𝓤) (A : Atoms 𝓤) (W : Given
   new : (r : Fresh) (v : Val) → Is F.the-row r (v ∷ []) → r ≡ freshOf limits n marks → New v
   new r v is says-r =
       record {
-        parts = _;
-        spelled = ap only (LL.tells F.the-type F′.the-laws r (v ∷ []) is);
-        typed = LL.lawful F.the-type F′.the-laws 𝓤 H A W .typed r _ is .0;
-        bench = r .bench;
-        bench-is = LL.owed F.the-type F′.the-laws r (v ∷ []) is .0;
-        first = refl;
+        fresh =
+            record {
+              parts = _;
+              spelled = ap only (LL.tells F.the-type F′.the-laws r (v ∷ []) is);
+              typed = LL.lawful F.the-type F′.the-laws 𝓤 H A W .typed r _ is .0;
+              head = r .bench;
+              head-is = LL.owed F.the-type F′.the-laws r (v ∷ []) is .0;
+              first = refl;
+            };
         so = (λ i. says-r i .bench) ∙ fresh-bench limits n marks;
       }
 

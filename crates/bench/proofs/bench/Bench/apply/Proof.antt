@@ -113,12 +113,15 @@ module _ {M : Type 1} (𝓤 : URA M) (H : Heap 𝓤) (A : Atoms 𝓤) (W : Given
   handed : (r : Outcome) (v : Val) → Is O.the-row r (v ∷ []) → r ≡ stepOf limits h e → Handed v
   handed r v is says-r =
       record {
-        parts = _;
-        spelled = ap only (LL.tells O.the-type O′.the-laws r (v ∷ []) is);
-        typed = LL.lawful O.the-type O′.the-laws 𝓤 H A W .typed r _ is .0;
-        left = r .bench;
-        left-is = bench-is r v is;
-        first = refl;
+        outcome =
+            record {
+              parts = _;
+              spelled = ap only (LL.tells O.the-type O′.the-laws r (v ∷ []) is);
+              typed = LL.lawful O.the-type O′.the-laws 𝓤 H A W .typed r _ is .0;
+              head = r .bench;
+              head-is = bench-is r v is;
+              first = refl;
+            };
         answer = nv (r .answer);
         answer-typed = EL.lawful N.the-type N′.the-laws 𝓤 H A W tt .typed (r .answer) _ (answer-is r v is) .0;
         second = refl;
