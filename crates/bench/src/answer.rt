@@ -4,7 +4,7 @@ ghost use Rattle.bench.specs.Answers.{fresh_number, answer_number, is_accepted};
 use vote::Answer as TurnAnswer;
 
 // How the call for a fresh bench is answered.
-#[derive(Drop)]
+#[derive(Clone, Copy)]
 pub enum FreshAnswer {
     Made,
     NoBus,
@@ -12,7 +12,7 @@ pub enum FreshAnswer {
 }
 
 // How an event is answered: accepted, or by the first row of the table that applies.
-#[derive(Drop)]
+#[derive(Clone, Copy)]
 pub enum Answer {
     Accepted,
     NoKind,

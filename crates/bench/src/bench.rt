@@ -9,7 +9,7 @@ use signer::{Identifier, Signer};
 use vote::Board;
 
 // The boards of a bus, 1 to n, the sound ones among them, their signers, and the copies that are owed.
-#[derive(Drop)]
+#[derive(Clone, Copy)]
 pub struct Bench {
     pub n: u8,
     pub sound: u16,

@@ -18,7 +18,7 @@ use signer::{Identifier, Signer};
 use vote::{Board, Said, Statement};
 
 // What comes of an event: the bench afterwards, and the answer.
-#[derive(Drop)]
+#[derive(Clone, Copy)]
 pub struct Outcome {
     pub bench: Bench,
     pub answer: Answer,
@@ -26,7 +26,7 @@ pub struct Outcome {
 
 // What an event does to the parts of a bench: the answer, the board a and its signer afterwards, and the statement, if
 // any, of which copies become owed.
-#[derive(Drop)]
+#[derive(Clone, Copy)]
 pub(crate) struct Effect {
     pub(crate) answer: Answer,
     pub(crate) board: Board,

@@ -2,7 +2,7 @@ ghost use Rattle.std.specs.Prelude.{◌≡◌, get_or};
 ghost use Rattle.bench.specs.Events.{high_first, event_from};
 
 // An event as it stands in a schedule, whatever its fields hold.
-#[derive(Drop)]
+#[derive(Clone, Copy)]
 pub struct Event {
     pub kind: u8,
     pub a: u8,

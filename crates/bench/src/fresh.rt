@@ -12,7 +12,7 @@ use signer::Signer;
 use vote::Board;
 
 // What comes of the call for a fresh bench: the bench, and the answer.
-#[derive(Drop)]
+#[derive(Clone, Copy)]
 pub struct Fresh {
     pub bench: Bench,
     pub answer: FreshAnswer,

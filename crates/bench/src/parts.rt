@@ -11,7 +11,7 @@ use vote::Board;
 
 // What an event asks about a bench, but for the board a that it is for and that board's signer: the number of boards,
 // the sound ones, whether b has decided so, and what b's signer has signed under the identifier, as a log's entry.
-#[derive(Drop)]
+#[derive(Clone, Copy)]
 pub(crate) struct Rest {
     pub(crate) n: u8,
     pub(crate) sound: u16,

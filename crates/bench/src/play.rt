@@ -13,7 +13,7 @@ use delivery::Delivered;
 
 // How playing a list went: it was played, or it was not, since its bytes are not whole events, or since there is no
 // room for its answers.
-#[derive(Drop)]
+#[derive(Clone, Copy)]
 pub enum Ending {
     Played,
     Ragged,
@@ -22,7 +22,7 @@ pub enum Ending {
 
 // What comes of playing a list into a fresh bench: the bench, the answer to the call for the fresh one, and how it
 // went.
-#[derive(Drop)]
+#[derive(Clone, Copy)]
 pub struct Played {
     pub bench: Bench,
     pub answer: FreshAnswer,

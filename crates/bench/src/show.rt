@@ -8,7 +8,7 @@ use signer::from_one;
 use vote::{Board, Status};
 
 // How a board stands; a number that is no board of the bench is absent.
-#[derive(Drop)]
+#[derive(Clone, Copy)]
 pub enum Letter {
     Faulty,
     NotStarted,
@@ -19,7 +19,7 @@ pub enum Letter {
 }
 
 // What a bench shows of a board.
-#[derive(Drop)]
+#[derive(Clone, Copy)]
 pub struct Shown {
     pub letter: Letter,
     pub round: Round,

@@ -7,7 +7,7 @@ use crate::store;
 use signer::{Identifier, Log, from_one};
 
 // What one board has delivered: for each speaker, what it said under each identifier.
-#[derive(Drop)]
+#[derive(Clone, Copy)]
 pub struct Delivered {
     pub entries: [u32; store::PLACES],
 }

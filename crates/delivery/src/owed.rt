@@ -8,13 +8,13 @@ use crate::set;
 use signer::Identifier;
 
 // For one speaker: under each identifier, the set of boards to which a copy is owed.
-#[derive(Drop)]
+#[derive(Clone, Copy)]
 pub struct Copies {
     pub receivers: [u16; Identifier::LAST as usize],
 }
 
 // The copies that are owed, by speaker.
-#[derive(Drop)]
+#[derive(Clone, Copy)]
 pub struct Owed {
     pub speakers: [Copies; Delivered::BOARDS as usize],
 }

@@ -5,7 +5,7 @@ use bench::FreshAnswer;
 
 // Why a file is refused: it ends where a byte is due, has no number of boards that there can be, has a mark that is none,
 // counts too many events, or goes on after the last of them.
-#[derive(Drop)]
+#[derive(Clone, Copy)]
 pub enum Fault {
     EndsEarly,
     NoBus,
@@ -15,7 +15,7 @@ pub enum Fault {
 }
 
 // How a file is answered.
-#[derive(Drop)]
+#[derive(Clone, Copy)]
 pub enum FileAnswer {
     Taken,
     Refused(Fault),

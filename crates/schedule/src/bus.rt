@@ -10,7 +10,7 @@ use delivery::Delivered;
 
 // What stands at the front of a file: how many boards there are, and their marks; those after the n-th are 0. If it is
 // refused, n and all marks are 0.
-#[derive(Drop)]
+#[derive(Clone, Copy)]
 pub struct Bus {
     pub n: u8,
     pub marks: [u8; Bench::BOARDS as usize],

@@ -10,7 +10,7 @@ use bench::{Bench, Event};
 
 // A file that was read: its boards with their marks, how many events it has, and where in the file they begin. If it is
 // refused, all of these are 0.
-#[derive(Drop)]
+#[derive(Clone, Copy)]
 pub struct Schedule {
     pub n: u8,
     pub marks: [u8; Bench::BOARDS as usize],

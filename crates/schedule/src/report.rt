@@ -12,7 +12,7 @@ use crate::{player, text};
 use bench::Bench;
 
 // How a report went: it was written, or there was too little room and nothing was. Each has the report's length.
-#[derive(Drop)]
+#[derive(Clone, Copy)]
 pub enum Report {
     Written(usize),
     Short(usize),

@@ -5,7 +5,7 @@ use crate::answer::Fault;
 use bench::Event;
 
 // What stands at the front of some bytes: a count of events and as many events, or a fault.
-#[derive(Drop)]
+#[derive(Clone, Copy)]
 pub enum Section {
     Events(u16),
     Refused(Fault),

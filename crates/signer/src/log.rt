@@ -4,7 +4,7 @@ ghost use Rattle.signer.specs.Log.{identifiers, entry_of, value_of, empty_log, e
 use crate::identifier::Identifier;
 
 // What one speaker said under each identifier. Entry 0: nothing; entry v + 1: the value v.
-#[derive(Drop)]
+#[derive(Clone, Copy)]
 pub struct Log {
     pub entries: [u32; Identifier::LAST as usize],
 }

@@ -6,14 +6,14 @@ use crate::identifier::Identifier;
 use crate::log::Log;
 
 // A board's signing chip: the highest identifier signed, and what was signed under each.
-#[derive(Drop)]
+#[derive(Clone, Copy)]
 pub struct Signer {
     pub last: Identifier,
     pub log: Log,
 }
 
 // A request's outcome: the signer afterwards, and whether it signed.
-#[derive(Drop)]
+#[derive(Clone, Copy)]
 pub struct Signing {
     pub signer: Signer,
     pub signed: bool,

@@ -11,7 +11,7 @@ use delivery::{Delivered, Round, bus, set};
 use signer::Log;
 
 // What a board decided, and in which round.
-#[derive(Drop)]
+#[derive(Clone, Copy)]
 pub struct Decision {
     pub round: Round,
     pub value: u16,
@@ -19,7 +19,7 @@ pub struct Decision {
 
 // How far a board is: not started; voting; spent, document 01's word for one that the last round left undecided; or
 // decided.
-#[derive(Drop)]
+#[derive(Clone, Copy)]
 pub enum Status {
     Idle,
     Voting,
@@ -28,7 +28,7 @@ pub enum Status {
 }
 
 // A board, as far as the vote goes.
-#[derive(Drop)]
+#[derive(Clone, Copy)]
 pub struct Board {
     pub position: Position,
     pub delivered: Delivered,

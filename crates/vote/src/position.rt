@@ -5,7 +5,7 @@ ghost use Rattle.vote.specs.Turns.{at_stage};
 use delivery::Round;
 
 // What a board does next in its round; document 01 calls these A, B and C.
-#[derive(Drop)]
+#[derive(Clone, Copy)]
 pub enum Stage {
     Open,
     Vote,
@@ -13,7 +13,7 @@ pub enum Stage {
 }
 
 // Where a board stands in the vote: what its next turn goes by, beside what it has delivered.
-#[derive(Drop)]
+#[derive(Clone, Copy)]
 pub struct Position {
     pub round: Round,
     pub estimate: u16,

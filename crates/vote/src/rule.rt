@@ -10,7 +10,7 @@ use signer::Log;
 
 // What a board does in a turn: it waits; passes, not being coordinator; opens with its estimate; gives a ballot with a
 // value; decides a value; goes on with an estimate; or is spent with one.
-#[derive(Drop)]
+#[derive(Clone, Copy)]
 pub enum Move {
     Waits,
     Passes,

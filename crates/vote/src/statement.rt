@@ -1,7 +1,7 @@
 use signer::Identifier;
 
 // What a speaker says under an identifier.
-#[derive(Drop)]
+#[derive(Clone, Copy)]
 pub struct Statement {
     pub speaker: u8,
     pub id: Identifier,
@@ -9,7 +9,7 @@ pub struct Statement {
 }
 
 // What a board has to say in a turn.
-#[derive(Drop)]
+#[derive(Clone, Copy)]
 pub enum Said {
     Nothing,
     One(Statement),

@@ -10,7 +10,7 @@ use crate::statement::{Said, Statement};
 use delivery::{Delivered, Phase, Round};
 
 // How a turn was answered.
-#[derive(Drop)]
+#[derive(Clone, Copy)]
 pub enum Answer {
     Done,
     NotStarted,
@@ -19,7 +19,7 @@ pub enum Answer {
 }
 
 // What comes of a turn: the board afterwards, the answer, and what it has to say. The caller has that signed.
-#[derive(Drop)]
+#[derive(Clone, Copy)]
 pub struct Turn {
     pub board: Board,
     pub answer: Answer,

@@ -6,7 +6,7 @@ use signer::Identifier;
 use vote::{Board, Position, Said, Stage, Statement, Status};
 
 // The runs. Each has one board.
-#[derive(Drop)]
+#[derive(Clone, Copy)]
 enum Run {
     OwnTurn,
     Incident,
@@ -22,7 +22,7 @@ enum Run {
 
 // A step of a run; a statement has its speaker, round and value. Before each run stand its name, how many
 // boards there are, and which of them takes the steps.
-#[derive(Drop)]
+#[derive(Clone, Copy)]
 enum Step {
     Run(Run, u8, u8),
     Propose(u16),
@@ -132,7 +132,7 @@ const STEPS: [Step; COUNT] = [
 ];
 
 // A board, its number, and how many boards there are.
-#[derive(Drop)]
+#[derive(Clone, Copy)]
 struct Seat {
     n: u8,
     me: u8,
