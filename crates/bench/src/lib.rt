@@ -1,6 +1,8 @@
 // The bench: the boards of a bus with their signers and the copies that are owed, changed by one event after
 // another. Any event may be played on any bench: it is answered 0, or by a row of document 01's table, and then it has
 // changed nothing.
+#![tactic(auto)]
+
 mod answer;
 mod bench;
 mod effect;

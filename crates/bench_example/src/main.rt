@@ -1,6 +1,8 @@
 // Plays stored schedules of events into fresh benches, and writes what came of each: the answer to the call
 // for the fresh bench; for each event its number and its answer; for each board its number, letter, round and
 // value; and how many copies are owed in the end.
+#![tactic(auto)]
+
 ghost use Rattle.std.specs.Prelude.{◌≡◌, ◌∷◌, replicate};
 ghost use Rattle.delivery.specs.Limits.{limits};
 ghost use Rattle.bench.specs.Setups.{fresh_bench};

@@ -1,6 +1,8 @@
 // Runs acceptance and the record of owed copies on examples, and writes what came of each. First the
 // letters e to k of document 01; then the incident that all this is for; then the last round of the
 // largest bus; then arguments that no bus has; then owed copies.
+#![tactic(auto)]
+
 use delivery::{Delivered, Owed, Phase, Round, set};
 use libc::STDOUT_FILENO;
 use signer::Log;

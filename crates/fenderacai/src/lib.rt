@@ -1,5 +1,7 @@
 // What other languages call. Each call plays a schedule file: one writes its report, the other the state before the first
 // event and after each. A slice is passed as a pointer and a length.
+#![tactic(auto)]
+
 ghost use Rattle.std.specs.Prelude.{◌≡◌, length};
 ghost use Rattle.delivery.specs.Limits.{limits};
 ghost use Rattle.schedule.specs.Prints.{printed, buffer_from};

@@ -1,3 +1,5 @@
+#![tactic(auto)]
+
 ghost use Rattle.std.specs.Prelude.{◌+◌, ◌≡◌, length};
 ghost use Rattle.delivery.specs.Limits.{limits};
 ghost use Rattle.schedule.specs.Files.{longest_file};

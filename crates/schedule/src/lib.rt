@@ -1,5 +1,7 @@
 // Schedule files: reading one from its bytes, playing it, and the report of what came of it. Every list of bytes is
 // taken, and is read as what it means or refused with the first fault that is met in it.
+#![tactic(auto)]
+
 mod answer;
 mod bus;
 mod file;

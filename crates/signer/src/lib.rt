@@ -1,5 +1,7 @@
 // The signers: what each board's signing chip keeps, and when it signs. A signer knows nothing of
 // rounds, boards or votes.
+#![tactic(auto)]
+
 pub mod from_one;
 mod identifier;
 mod log;

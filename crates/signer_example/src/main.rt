@@ -1,6 +1,8 @@
 // Hands a fresh signer the requests below, one after another, and writes what came of each: the
 // identifier, the value and the answer. Then it writes what stands under some identifiers: the
 // identifier, and the value or `nothing`.
+#![tactic(auto)]
+
 use libc::STDOUT_FILENO;
 use signer::{Identifier, Log, Signer};
 

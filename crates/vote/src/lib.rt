@@ -1,5 +1,7 @@
 // A board's vote: how it starts, takes its turns, hears, suspects and decides. It is told how many boards there
 // are and which of them it is, and knows nothing of the bench; its statements are signed by whoever calls.
+#![tactic(auto)]
+
 mod ballots;
 mod board;
 mod position;

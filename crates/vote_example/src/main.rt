@@ -1,5 +1,7 @@
 // Plays boards of a voting bus through stored steps, and writes a line for each: what was asked, for a turn
 // its answer and what the board signed, and how the board stands then.
+#![tactic(auto)]
+
 use delivery::{Delivered, Phase, Round};
 use libc::STDOUT_FILENO;
 use signer::Identifier;
