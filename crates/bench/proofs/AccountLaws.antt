@@ -7,7 +7,7 @@ use mathlib.Core.Logic.{◌⊎◌, inl, inr, ⊎_elim, ◌↔◌}
 use borrow.Author.Tests.{eq-eqb, eqb-true}
 use lib.Dec.{eqb}
 use Rattle.signer.specs.FromOne.{is_within}
-use Rattle.signer.specs.Conditional.{if◌then◌else◌}
+use Rattle.std.specs.Prelude.{if◌then◌else◌}
 use Rattle.signer.specs.Log.{is_identifier, entry_of}
 use Rattle.signer.specs.Signer.{grants}
 use Rattle.signer.proofs.SignerLaws.{grants-only}
@@ -116,37 +116,37 @@ hears-hearing L d x w b i n =
 module _ (L : Limits) (n k : ℕ) (t : Standing) (e : Event) where
   pub believing-proposal : e.kind ≡ proposing
       → believing L n k t e ≡ record { position = starting_with t.position e.value; heard = t.heard }
-  unfolding believing if◌then◌else◌
+  unfolding believing
   believing-proposal i = rw i
 
   pub believing-turn : e.kind ≡ turning
       → believing L n k t e
       ≡ record { position = position_after L (move_of L n k t) t.position; heard = hearing_said t.heard (saying L n k t) }
-  unfolding believing if◌then◌else◌
+  unfolding believing
   believing-turn i = rw i
 
   pub believing-delivery : e.kind ≡ delivering
       → believing L n k t e ≡ record { position = t.position; heard = hearing t.heard e.b e.id e.value }
-  unfolding believing if◌then◌else◌
+  unfolding believing
   believing-delivery i = rw i
 
   pub believing-announcement : e.kind ≡ announcing → believing L n k t e ≡ t
-  unfolding believing if◌then◌else◌
+  unfolding believing
   believing-announcement i = rw i
 
   abbrev suspects : ℕ → Standing
   suspects m = record { position = with_suspected t.position m; heard = t.heard }
 
   pub believing-suspicion : e.kind ≡ suspecting → believing L n k t e ≡ suspects (with_board t.position.suspected e.b)
-  unfolding believing if◌then◌else◌
+  unfolding believing
   believing-suspicion i = rw i
 
   pub believing-trust : e.kind ≡ trusting → believing L n k t e ≡ suspects (without_board t.position.suspected e.b)
-  unfolding believing if◌then◌else◌
+  unfolding believing
   believing-trust i = rw i
 
   believing-signature : e.kind ≡ signing → believing L n k t e ≡ t
-  unfolding believing if◌then◌else◌
+  unfolding believing
   believing-signature i = rw i
 
 -- The account of an accepted event e, for the board a that it is for: the change that it is; what it adds to a history is

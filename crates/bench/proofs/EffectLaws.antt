@@ -1,7 +1,7 @@
 -- Laws of what an accepted event does, by its kind. Assumes nothing.
 use borrow.Author.Tests.{ne_eqb}
 use mathlib.Core.Path.{◌≡◌, ◌∙◌}
-use Rattle.signer.specs.Conditional.{if◌then◌else◌}
+use Rattle.std.specs.Prelude.{if◌then◌else◌}
 use Rattle.signer.proofs.ConditionalLaws.{if-false}
 use Rattle.delivery.specs.Limits.{Limits}
 use Rattle.vote.specs.Boards.{propose, suspect, trust}
@@ -14,29 +14,29 @@ use Rattle.bench.specs.declared.event.Event.{Event}
 
 module _ (L : Limits) (c : Bench) (e : Event) where
   pub effect-proposing : e.kind ≡ proposing → effect_of L c e ≡ with_board_at c e.a (propose (board_at L c e.a) e.value)
-  unfolding effect_of if◌then◌else◌
+  unfolding effect_of
   effect-proposing k = rw k
 
   pub effect-turning : e.kind ≡ turning → effect_of L c e ≡ after_turn L c e.a
-  unfolding effect_of if◌then◌else◌
+  unfolding effect_of
   effect-turning k = rw k
 
   pub effect-delivering : e.kind ≡ delivering
       → effect_of L c e ≡ after_hearing L c e.a (brought e)
-  unfolding effect_of if◌then◌else◌
+  unfolding effect_of
   effect-delivering k = rw k
 
   pub effect-announcing : e.kind ≡ announcing
       → effect_of L c e ≡ with_board_at c e.a (announce L c.n (board_at L c e.a) e.id e.value)
-  unfolding effect_of if◌then◌else◌
+  unfolding effect_of
   effect-announcing k = rw k
 
   pub effect-suspecting : e.kind ≡ suspecting → effect_of L c e ≡ with_board_at c e.a (suspect (board_at L c e.a) e.b)
-  unfolding effect_of if◌then◌else◌
+  unfolding effect_of
   effect-suspecting k = rw k
 
   pub effect-trusting : e.kind ≡ trusting → effect_of L c e ≡ with_board_at c e.a (trust (board_at L c e.a) e.b)
-  unfolding effect_of if◌then◌else◌
+  unfolding effect_of
   effect-trusting k = rw k
 
   -- an event of no other kind has its board's signer asked for a signature

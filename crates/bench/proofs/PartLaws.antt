@@ -11,7 +11,7 @@ use lib.Dec.{eqb}
 use lib.ListN.{length, get_or, set}
 use lib.Seq.{set-get_or}
 use Rattle.signer.specs.FromOne.{is_within, nth, set_nth}
-use Rattle.signer.specs.Conditional.{if◌then◌else◌}
+use Rattle.std.specs.Prelude.{if◌then◌else◌}
 use Rattle.signer.specs.Log.{entry_at}
 use Rattle.signer.specs.Signer.{fresh_signer, sign}
 use Rattle.signer.specs.declared.signer.Signer.{Signer}
@@ -155,7 +155,7 @@ module _ (L : Limits) (c : Bench) (e : Event) where
   -- an event that the last row does not apply to is done, and one that is refused leaves the parts as they were
   pub done : (a : Board) (own : Signer) (x : Effect) (w : Bool) → w ≡ false → x.answer ≡ Accepted
       → put_back L c e x ≡ effect_of L c e → Steps L c e (last_of w) a own x
-  unfolding last_of if◌then◌else◌
+  unfolding last_of
   done a own x true h p q = absurd (true≢false h)
   done a own x false h p q =
       record {

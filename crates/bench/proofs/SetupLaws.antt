@@ -8,7 +8,7 @@ use mathlib.Core.Logic.{⊎_elim}
 use lib.Dec.{eqb}
 use lib.ListN.{length-replicate}
 use Rattle.signer.specs.FromOne.{is_within, nth}
-use Rattle.signer.specs.Conditional.{if◌then◌else◌}
+use Rattle.std.specs.Prelude.{if◌then◌else◌}
 use Rattle.signer.specs.Log.{entry_at, entry_of}
 use Rattle.signer.specs.Signer.{fresh_signer}
 use Rattle.signer.specs.declared.signer.Signer.{Signer}

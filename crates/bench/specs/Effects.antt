@@ -1,7 +1,7 @@
 -- Document 01, "Events": what an accepted event does, and an event as a whole.
 use Rattle.std.specs.Prelude.{ℕ, eqb}
 use Rattle.signer.specs.FromOne.{set_nth}
-use Rattle.signer.specs.Conditional.{if◌then◌else◌}
+use Rattle.std.specs.Prelude.{if◌then◌else◌}
 use Rattle.signer.specs.Signer.{sign}
 use Rattle.delivery.specs.Limits.{Limits}
 use Rattle.delivery.specs.Owed.{after_signing, after_delivery}

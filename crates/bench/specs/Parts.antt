@@ -2,7 +2,7 @@
 -- promises something for every bench that has these parts.
 use Rattle.std.specs.Prelude.{ℕ, ◌≡◌, Bool, true, false, eqb}
 use Rattle.signer.specs.FromOne.{is_within, set_nth}
-use Rattle.signer.specs.Conditional.{if◌then◌else◌}
+use Rattle.std.specs.Prelude.{if◌then◌else◌}
 use Rattle.signer.specs.Log.{entry_at}
 use Rattle.signer.specs.Signer.{sign}
 use Rattle.signer.specs.declared.signer.Signer.{Signer}

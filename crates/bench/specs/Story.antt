@@ -1,7 +1,7 @@
 -- Document 01, "Events", on agreement: what a list of events and its answers says by itself. No bench is looked at, and
 -- no row of the table: every event that was answered 0 is believed, whatever its fields hold, and no other is.
 use Rattle.std.specs.Prelude.{ℕ, List, [], ◌∷◌, eqb}
-use Rattle.signer.specs.Conditional.{if◌then◌else◌}
+use Rattle.std.specs.Prelude.{if◌then◌else◌}
 use Rattle.signer.specs.Log.{entry_of}
 use Rattle.delivery.specs.Tests.{◌and◌}
 use Rattle.delivery.specs.Limits.{Limits}

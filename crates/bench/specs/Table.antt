@@ -2,7 +2,7 @@
 -- applies, of the event e and, where it asks for more, the bench c as it then is.
 use Rattle.std.specs.Prelude.{ℕ, Bool, true, false, List, [], ◌∷◌, eqb, leb, ltb}
 use Rattle.signer.specs.FromOne.{is_within}
-use Rattle.signer.specs.Conditional.{if◌then◌else◌}
+use Rattle.std.specs.Prelude.{if◌then◌else◌}
 use Rattle.signer.specs.Log.{is_identifier, entry_of}
 use Rattle.signer.specs.Signer.{grants}
 use Rattle.signer.specs.declared.signer.Signer.{Signer}

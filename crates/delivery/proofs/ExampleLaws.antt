@@ -6,7 +6,7 @@ use mathlib.Core.Bool.{false}
 use mathlib.Core.Logic.{inl, inr, ⊎_elim}
 use borrow.Author.Tests.{eqb-true, eq-eqb}
 use lib.Dec.{eqb}
-use Rattle.signer.specs.Conditional.{if◌then◌else◌}
+use Rattle.std.specs.Prelude.{if◌then◌else◌}
 use Rattle.signer.specs.FromOne.{is_within, nth, set_nth}
 use Rattle.signer.specs.Log.{entry_of}
 use Rattle.delivery.specs.Tests.{◌and◌, ◌or◌, neg}
@@ -66,7 +66,7 @@ tallies : (Tallied 3 nine-blank 1 1 10)
     × (Tallied 4 nine-blank-blank 2 1 1)
     × (Tallied 4 nine-nine-blank 1 2 10)
 unfolding
-    heard_in place_of deliver nothing_delivered identifier_of phase_of is_within coordinator ◌and◌ ◌or◌ neg if◌then◌else◌ says bears backs
+    heard_in place_of deliver nothing_delivered identifier_of phase_of is_within coordinator ◌and◌ ◌or◌ neg says bears backs
     among count_in plus nth set_nth
 tallies = (
   record { opening = refl; blanks = refl; backers = refl; left = refl },
@@ -99,7 +99,7 @@ letter-j w = second 4 nine-nine-blank 10 1 2 10 tallies.5 (omega arith) w ∙ on
 -- letter k: no opening was heard, so no ballot with a value is accepted
 pub letter-k : LetterK
 unfolding
-    heard_in place_of deliver nothing_delivered identifier_of phase_of is_within coordinator ◌and◌ if◌then◌else◌ nth set_nth
+    heard_in place_of deliver nothing_delivered identifier_of phase_of is_within coordinator ◌and◌ nth set_nth
 letter-k v = (
   refl,
   λ s w z.

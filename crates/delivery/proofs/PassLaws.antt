@@ -8,7 +8,7 @@ use mathlib.Core.List.Memᴰ
 use mathlib.Core.List.{List, []}
 use borrow.Author.Tests.{eqb-true, eq-eqb, ne_eqb, leb-true, le-leb}
 use lib.Dec.{eqb, leb}
-use Rattle.signer.specs.Conditional.{if◌then◌else◌}
+use Rattle.std.specs.Prelude.{if◌then◌else◌}
 use Rattle.signer.specs.Log.{entry_of}
 use Rattle.signer.proofs.ConditionalLaws.{if-elim}
 use Rattle.delivery.specs.Tests.{◌and◌, ◌or◌, neg}

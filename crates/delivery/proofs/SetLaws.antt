@@ -40,7 +40,7 @@ use lib.Bits.{
   or_shifted_r,
 }
 use lib.Count.{ones, ones_cat}
-use Rattle.signer.specs.Conditional.{if◌then◌else◌}
+use Rattle.std.specs.Prelude.{if◌then◌else◌}
 use Rattle.signer.proofs.ConditionalLaws.{if-true, if-false}
 use Rattle.delivery.specs.Tests.{◌and◌, ◌or◌, neg}
 use Rattle.delivery.specs.Counting.{plus, count_in}

@@ -1,7 +1,7 @@
 -- Document 01, "Delivery": what one board has delivered, and one statement more.
 use Rattle.std.specs.Prelude.{ℕ, ◌+◌, ◌-◌, ◌*◌, List, eqb, replicate}
 use Rattle.signer.specs.FromOne.{nth, set_nth}
-use Rattle.signer.specs.Conditional.{if◌then◌else◌}
+use Rattle.std.specs.Prelude.{if◌then◌else◌}
 use Rattle.signer.specs.Log.{is_identifier, entry_of}
 use Rattle.delivery.specs.Tests.{◌and◌}
 use Rattle.delivery.specs.Limits.{Limits}

@@ -3,7 +3,7 @@
 -- proofs/ExampleLaws.
 use Rattle.std.specs.Prelude.{ℕ, ◌≡◌, refl, false, eqb}
 use Rattle.signer.specs.FromOne.{is_within}
-use Rattle.signer.specs.Conditional.{if◌then◌else◌}
+use Rattle.std.specs.Prelude.{if◌then◌else◌}
 use Rattle.signer.specs.Log.{identifiers, entry_of}
 use Rattle.delivery.specs.Tests.{neg}
 use Rattle.delivery.specs.Limits.{limits}
@@ -43,7 +43,7 @@ abbrev pub LetterC : Type 0
 LetterC = (identifier_of limits Opening limits.rounds ≡ 63) × (identifier_of limits Ballot limits.rounds ≡ identifiers)
 
 pub letter-c : LetterC
-unfolding identifier_of phase_of is_within if◌then◌else◌
+unfolding identifier_of phase_of is_within
 letter-c = (refl, refl)
 
 -- A board that has delivered the opening of round 1 with 9, which board 1 sends, and some ballots of round 1.

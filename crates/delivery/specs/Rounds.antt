@@ -2,7 +2,7 @@
 -- "A board's turns" the round after a round.
 use Rattle.std.specs.Prelude.{ℕ, suc, ◌+◌, ◌-◌, ◌*◌, ◌%◌, Bool, ltb}
 use Rattle.signer.specs.FromOne.{is_within}
-use Rattle.signer.specs.Conditional.{if◌then◌else◌}
+use Rattle.std.specs.Prelude.{if◌then◌else◌}
 use Rattle.delivery.specs.Limits.{Limits}
 use Rattle.delivery.specs.declared.round.Phase.{Phase}
 use Rattle.delivery.specs.declared.round.Phase.TheVariants.{Opening, Ballot}

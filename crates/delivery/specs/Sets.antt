@@ -1,6 +1,6 @@
 -- Document 01, "Words and sizes": sets of boards, as bits of a number.
 use Rattle.std.specs.Prelude.{ℕ, zero, suc, ◌+◌, ◌/◌, ◌%◌, ◌^◌, Bool, false, eqb}
-use Rattle.signer.specs.Conditional.{if◌then◌else◌}
+use Rattle.std.specs.Prelude.{if◌then◌else◌}
 use Rattle.delivery.specs.Tests.{◌and◌, ◌or◌, neg}
 
 -- board k is in the set m if bit k - 1 of m is 1

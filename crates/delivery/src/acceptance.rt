@@ -1,5 +1,5 @@
 ghost use Rattle.std.specs.Prelude.{ℕ, ◌+◌, ◌-◌, min, ◌≡◌, eqb, leb};
-ghost use Rattle.signer.specs.Conditional.{if◌then◌else◌};
+ghost use Rattle.std.specs.Prelude.{if◌then◌else◌};
 ghost use Rattle.delivery.specs.Tests.{◌and◌, ◌or◌};
 ghost use Rattle.delivery.specs.Counting.{count_in};
 ghost use Rattle.delivery.specs.Limits.{limits};

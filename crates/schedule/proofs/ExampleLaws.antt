@@ -3,7 +3,7 @@ use native.Mathlib.Omega.{arith}
 use mathlib.Core.Path.{◌≡◌, refl, sym, ap, ◌∙◌}
 use mathlib.Core.List.{[], ◌∷◌, flat_map}
 use Rattle.signer.specs.FromOne.{is_within, nth}
-use Rattle.signer.specs.Conditional.{if◌then◌else◌}
+use Rattle.std.specs.Prelude.{if◌then◌else◌}
 use Rattle.signer.specs.Examples.{letter-d}
 use Rattle.delivery.specs.Limits.{limits}
 use Rattle.delivery.specs.Examples.{letter-a, letter-b, letter-c}
@@ -32,7 +32,7 @@ whole-holdable = record { boards = refl; marks = more refl none; few = omega ari
 
 -- so it prints the answers and the board that the bench's example shows
 letter-l : LetterL
-unfolding whole printed_from parts_to event_line board_line decimal decimal_in nth if◌then◌else◌ letter_byte
+unfolding whole printed_from parts_to event_line board_line decimal decimal_in nth letter_byte
 letter-l =
     ap (printed_from limits) (ap (file_due limits) (sym laid-whole) ∙ file-read limits whole whole-holdable)
     ∙ rw ((bench.examples).letter-l, (bench.examples).letter-l-shown)
@@ -57,5 +57,5 @@ letters =
 
 -- the two refused files, by computation
 pub refused-files : RefusedFiles
-unfolding file_due bus_due byte_due next many_due mark_due printed_from refused_line fault_number fresh_number decimal decimal_in is_within if◌then◌else◌
+unfolding file_due bus_due byte_due next many_due mark_due printed_from refused_line fault_number fresh_number decimal decimal_in is_within
 refused-files = record { nine = refl; one = refl }

@@ -9,7 +9,7 @@ use mathlib.Core.List.{List, [], ◌∷◌, ◌++◌, flat_map, append_assoc, ap
 use mathlib.Core.Logic.{◌⊎◌, ⊎_elim}
 use lib.Dec.{leb}
 use lib.ListN.{length, drop}
-use Rattle.signer.specs.Conditional.{if◌then◌else◌}
+use Rattle.std.specs.Prelude.{if◌then◌else◌}
 use Rattle.signer.proofs.ConditionalLaws.{if-true, if-false}
 use Rattle.delivery.specs.Limits.{Limits}
 use Rattle.delivery.specs.Bus.{is_board}

@@ -10,7 +10,7 @@ use mathlib.Core.Logic.{◌⊎◌, inl, inr, ⊎_elim}
 use lib.Dec.{leb}
 use lib.ListN.{length, take, drop, length-append, length-take, length-drop, take-append-drop}
 use lib.Seq.{take_all, drop-append-le}
-use Rattle.signer.specs.Conditional.{if◌then◌else◌}
+use Rattle.std.specs.Prelude.{if◌then◌else◌}
 use Rattle.signer.proofs.ConditionalLaws.{if-true, if-false}
 use Rattle.signer.proofs.FromOneLaws.{within-high}
 use Rattle.delivery.specs.Limits.{Limits}

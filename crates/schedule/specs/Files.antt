@@ -1,7 +1,7 @@
 -- Document 01, "Where an event or file stops" and "Schedule file and program": what the bytes of a file mean. A file is
 -- read from the front, and the first fault that is met is its answer.
 use Rattle.std.specs.Prelude.{ℕ, zero, suc, ◌+◌, ◌*◌, List, [], ◌∷◌, leb, length, drop}
-use Rattle.signer.specs.Conditional.{if◌then◌else◌}
+use Rattle.std.specs.Prelude.{if◌then◌else◌}
 use Rattle.delivery.specs.Limits.{Limits}
 use Rattle.delivery.specs.Bus.{is_board}
 use Rattle.bench.specs.Events.{high_first, event_bytes, event_from}

@@ -1,6 +1,6 @@
 -- Document 01, "Bench examples": the one that is about a signer.
 use Rattle.std.specs.Prelude.{ℕ, ◌≡◌, refl, Bool, true, false, List, [], ◌∷◌, map}
-use Rattle.signer.specs.Conditional.{if◌then◌else◌}
+use Rattle.std.specs.Prelude.{if◌then◌else◌}
 use Rattle.signer.specs.FromOne.{is_within}
 use Rattle.signer.specs.Log.{identifiers}
 use Rattle.signer.specs.Signer.{Request, fresh_signer, grants, sign, history}
@@ -22,5 +22,5 @@ LetterD =
     ≡ true ∷ false ∷ false ∷ true ∷ []
 
 pub letter-d : LetterD
-unfolding history sign if◌then◌else◌ grants is_within fresh_signer
+unfolding history sign grants is_within fresh_signer
 letter-d u v w x = refl

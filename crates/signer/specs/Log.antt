@@ -1,7 +1,7 @@
 -- Document 01, "Words and sizes": values, identifiers, and what one speaker said under each identifier.
 -- A definition that depends on how many identifiers there are takes that number as `limit`.
 use Rattle.std.specs.Prelude.{ℕ, zero, suc, Bool, leb, replicate}
-use Rattle.signer.specs.Conditional.{if◌then◌else◌}
+use Rattle.std.specs.Prelude.{if◌then◌else◌}
 use Rattle.signer.specs.FromOne.{is_within, nth, set_nth}
 use Rattle.signer.specs.declared.log.Log.{Log}
 

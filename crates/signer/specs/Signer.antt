@@ -1,7 +1,7 @@
 -- Document 01, "Signer": first a fresh signer and what one request does, then a list of requests.
 use Rattle.std.specs.Prelude.{ℕ, ◌≡◌, Bool, true, false, ◌&&◌, ltb}
 use mathlib.Core.List.{List, [], ◌∷◌, Memᴰ}
-use Rattle.signer.specs.Conditional.{if◌then◌else◌}
+use Rattle.std.specs.Prelude.{if◌then◌else◌}
 use Rattle.signer.specs.Log.{entry_of, is_identifier, empty_log, entry_at, with_entry}
 use Rattle.signer.specs.declared.signer.Signer.{Signer}
 use Rattle.signer.specs.declared.signer.Signing.{Signing}

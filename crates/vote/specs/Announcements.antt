@@ -1,6 +1,6 @@
 -- Document 01, "A board's turns" and "Events" (kind 4): a decision by announcement.
 use Rattle.std.specs.Prelude.{ℕ, Bool, eqb, leb}
-use Rattle.signer.specs.Conditional.{if◌then◌else◌}
+use Rattle.std.specs.Prelude.{if◌then◌else◌}
 use Rattle.delivery.specs.Tests.{◌and◌, neg}
 use Rattle.delivery.specs.Limits.{Limits}
 use Rattle.delivery.specs.Bus.{quorum}

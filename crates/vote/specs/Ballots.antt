@@ -1,6 +1,6 @@
 -- Document 01, "A board's turns", stages B and C: what the statements of a round that a board accepts come to.
 use Rattle.std.specs.Prelude.{ℕ, zero, suc, Bool, eqb, leb}
-use Rattle.signer.specs.Conditional.{if◌then◌else◌}
+use Rattle.std.specs.Prelude.{if◌then◌else◌}
 use Rattle.signer.specs.Log.{value_of}
 use Rattle.delivery.specs.Tests.{◌and◌, neg}
 use Rattle.delivery.specs.Counting.{count_in}

@@ -1,7 +1,7 @@
 -- Document 01, "A board's turns", "Delivery" and "Events": what a board holds, how it starts, and what reaches it from
 -- outside, statements and suspicions.
 use Rattle.std.specs.Prelude.{ℕ, Bool, true, false, eqb}
-use Rattle.signer.specs.Conditional.{if◌then◌else◌}
+use Rattle.std.specs.Prelude.{if◌then◌else◌}
 use Rattle.delivery.specs.Tests.{◌and◌, ◌or◌}
 use Rattle.delivery.specs.Limits.{Limits}
 use Rattle.delivery.specs.Sets.{with_board, without_board}

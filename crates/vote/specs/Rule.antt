@@ -1,7 +1,7 @@
 -- Document 01, "A board's turns": what board `me` of n does in its turn, by its position p and the store h of what it
 -- has delivered.
 use Rattle.std.specs.Prelude.{ℕ, Bool, eqb, leb, ltb}
-use Rattle.signer.specs.Conditional.{if◌then◌else◌}
+use Rattle.std.specs.Prelude.{if◌then◌else◌}
 use Rattle.delivery.specs.Tests.{◌and◌, ◌or◌, neg}
 use Rattle.delivery.specs.Counting.{count_in, every_in}
 use Rattle.delivery.specs.Limits.{Limits}

@@ -1,7 +1,7 @@
 -- `Signer::sign` meets its contract. Assumes nothing.
 use borrow.Author.Rules.{rules}
 use borrow.Author.Tests.{not-true, not-false}
-use Rattle.signer.specs.Conditional.{if◌then◌else◌}
+use Rattle.std.specs.Prelude.{if◌then◌else◌}
 use Rattle.signer.specs.Signer.{sign}
 use Rattle.signer.proofs.signer.Signer.sign.Statement.{statement}
 use Rattle.signer.proofs.signer.Signer.sign.Tie as tie
@@ -10,7 +10,7 @@ grants-requires : tie.Need-grants-requires
 grants-requires c κs = search rules
 
 returns : tie.Need-returns
-unfolding sign if◌then◌else◌
+unfolding sign
 returns c = rw (← c.before.grants.ensures, not-true c.before.grants.result c.if1.true)
 
 entry-of-requires : tie.Need-entry-of-requires
@@ -20,7 +20,7 @@ with-entry-requires : tie.Need-with-entry-requires
 with-entry-requires c κs = search rules
 
 returns-2 : tie.Need-returns-2
-unfolding sign if◌then◌else◌
+unfolding sign
 returns-2 c =
     rw (← c.before.before.before.grants.ensures, not-false c.before.before.before.grants.result c.before.before.if1.false, c.with-entry.ensures, c.before.entry_of.ensures)
 
