@@ -69,7 +69,7 @@ module _ (limit : ℕ) where
   pub after-wellformed : (s : Signer) (rs : List Request) → WellFormed limit s → WellFormed limit (after limit s rs)
   unfolding after
   after-wellformed s [] w = w
-  after-wellformed s (r ∷ rs) w = after-wellformed _ rs (sign-wellformed limit s r.identifier r.value w)
+  after-wellformed s (r ∷ rs) w = after-wellformed (ask limit s r).signer rs (sign-wellformed limit s r.identifier r.value w)
 
   -- what is signed stays
   pub after-keeps : (s : Signer) (rs : List Request) → WellFormed limit s → (i v : ℕ)
@@ -78,7 +78,7 @@ module _ (limit : ℕ) where
   after-keeps s [] w i v h = h
   after-keeps s (r ∷ rs) w i v h =
       after-keeps
-      _
+      (ask limit s r).signer
       rs
       (sign-wellformed limit s r.identifier r.value w)
       i

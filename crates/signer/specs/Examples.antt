@@ -1,6 +1,5 @@
 -- Document 01, "Bench examples": the one that is about a signer.
 use Rattle.std.specs.Prelude.{ℕ, ◌≡◌, refl, Bool, true, false, List, [], ◌∷◌, map}
-use Rattle.std.specs.Prelude.{if◌then◌else◌}
 use Rattle.signer.specs.FromOne.{is_within}
 use Rattle.signer.specs.Log.{identifiers}
 use Rattle.signer.specs.Signer.{Request, fresh_signer, grants, sign, history}

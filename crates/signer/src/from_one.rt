@@ -2,6 +2,7 @@ ghost use Rattle.std.specs.Prelude.{◌≡◌};
 ghost use Rattle.signer.specs.FromOne.{is_within};
 
 // Whether k is a number from 1 to the limit.
+#[tactic(auto, using(crate::proofs::Rules::rules_from_one_within))]
 pub fn within(k: u8, limit: u8) -> bool
     ensures { result ≡ is_within limit k }
 {

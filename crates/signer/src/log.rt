@@ -16,6 +16,7 @@ impl Log {
     // What is said instead of a value; ⊥ in the published vote.
     pub const BLANK: u16 = 0;
 
+    #[tactic(auto, unfolding(crate::specs::Log::empty_log))]
     pub fn empty() -> Log
         ensures { result ≡ empty_log identifiers }
     {
@@ -32,6 +33,7 @@ impl Log {
     }
 
     // The value that an entry stands for; the blank where it stands for none.
+    #[tactic(auto, using(crate::proofs::Rules::rules_log_log_value_of))]
     pub fn value_of(entry: u32) -> u16
         ensures { result ≡ value_of entry }
     {
@@ -45,6 +47,7 @@ impl Log {
     }
 
     // The entry under an identifier; nothing stands under a number that is none.
+    #[tactic(auto, using(crate::proofs::Rules::rules_log_log_entry))]
     pub fn entry(self, id: Identifier) -> u32
         ensures { result ≡ entry_at self id.0 }
     {
@@ -57,6 +60,7 @@ impl Log {
     }
 
     // The log with this entry under an identifier; unchanged where the number is none.
+    #[tactic(auto, using(crate::proofs::Rules::rules_log_log_with_entry))]
     pub fn with_entry(self, id: Identifier, entry: u32) -> Log
         ensures { result ≡ with_entry self id.0 entry }
     {

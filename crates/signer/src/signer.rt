@@ -20,6 +20,7 @@ pub struct Signing {
 }
 
 impl Signer {
+    #[tactic(auto, unfolding(crate::specs::Signer::fresh_signer))]
     pub fn fresh() -> Signer
         ensures { result ≡ fresh_signer identifiers }
     {
@@ -29,6 +30,7 @@ impl Signer {
     }
 
     // Whether a request for this identifier is granted.
+    #[tactic(auto, unfolding(crate::specs::Signer::grants))]
     pub fn grants(self, id: Identifier) -> bool
         ensures { result ≡ grants identifiers self id.0 }
     {
@@ -41,6 +43,7 @@ impl Signer {
     }
 
     // Asks for a signature of this value under this identifier.
+    #[tactic(auto, unfolding(crate::specs::Signer::sign))]
     pub fn sign(self, id: Identifier, value: u16) -> Signing
         ensures { result ≡ sign identifiers self id.0 value }
     {
