@@ -14,3 +14,4 @@ pub mod GrowthLaws
 pub mod AllowanceLaws
 pub mod PassLaws
 pub mod ExampleLaws
+pub mod Rules

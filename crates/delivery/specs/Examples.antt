@@ -3,7 +3,6 @@
 -- proofs/ExampleLaws.
 use Rattle.std.specs.Prelude.{ℕ, ◌≡◌, refl, false, eqb}
 use Rattle.signer.specs.FromOne.{is_within}
-use Rattle.std.specs.Prelude.{if◌then◌else◌}
 use Rattle.signer.specs.Log.{identifiers, entry_of}
 use Rattle.delivery.specs.Tests.{neg}
 use Rattle.delivery.specs.Limits.{limits}

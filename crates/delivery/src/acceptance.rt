@@ -22,6 +22,7 @@ const EVERY_VALUE: u32 = 1;
 const LOWEST_VALUE: u32 = 2;
 
 // The entry that the coordinator sent as its opening where its value is allowed, else 0.
+#[tactic(auto, using(crate::proofs::Rules::rules_acceptance_opened))]
 fn opened(allowance: u32, sent: u32) -> u32
     ensures { result ≡ (if leb 2 sent and (eqb allowance 1 or eqb allowance sent) then sent else 0) }
 {
@@ -51,6 +52,7 @@ fn spare(backing: u8, e: u8) -> u8
 }
 
 // What is allowed after a round with so many blank ballots and so many for the opening's value.
+#[tactic(auto, using(crate::proofs::Rules::rules_acceptance_settled))]
 fn settled(q: u8, e: u8, blank: u8, backing: u8, allowance: u32, opening: u32) -> u32
     ensures { result ≡ (if leb q (blank + min backing (e - 1)) then allowance else (if leb q (blank + backing) and leb e backing then opening else 0)) }
 {
@@ -66,6 +68,7 @@ fn settled(q: u8, e: u8, blank: u8, backing: u8, allowance: u32, opening: u32) -
 }
 
 // The boards of 1 to n with this entry under an identifier.
+#[tactic(auto, using(crate::proofs::Rules::rules_acceptance_speakers), unfolding(crate::specs::Sets::set_of))]
 fn speakers(store: &[u32; store::PLACES], n: u8, id: Identifier, entry: u32) -> u16
     ensures { result ≡ set_of (min n limits.boards) (λ (s : ℕ). eqb (heard_in limits store.now s id.0) entry) }
 {
@@ -86,6 +89,7 @@ fn speakers(store: &[u32; store::PLACES], n: u8, id: Identifier, entry: u32) -> 
 }
 
 // The boards of 1 to n whose ballot of a round has this entry; no ballot has entry 0.
+#[tactic(auto, using(crate::proofs::Rules::rules_acceptance_bearing))]
 fn bearing(store: &[u32; store::PLACES], n: u8, round: Round, entry: u32) -> u16
     ensures { result ≡ set_of n (backs limits (heard_in limits store.now) round.0 entry) }
 {
@@ -96,6 +100,7 @@ fn bearing(store: &[u32; store::PLACES], n: u8, round: Round, entry: u32) -> u16
 }
 
 // How many boards of 1 to n have a ballot of a round with this entry, accepted or not.
+#[tactic(auto, using(crate::proofs::Rules::rules_acceptance_count_bearing))]
 pub fn count_bearing(store: &[u32; store::PLACES], n: u8, round: Round, entry: u32) -> u8
     ensures { result ≡ count_in n (backs limits (heard_in limits store.now) round.0 entry) }
 {
@@ -114,6 +119,7 @@ pub fn opening(store: &[u32; store::PLACES], n: u8, round: Round) -> u32
 }
 
 // Whether the value of this entry is allowed in a round: one pass over the rounds before it.
+#[tactic(auto, using(crate::proofs::Rules::rules_acceptance_allows))]
 fn allows(store: &[u32; store::PLACES], n: u8, round: Round, entry: u32) -> bool
     ensures { result ≡ says entry (allowed limits n (heard_in limits store.now) round.0) }
 {
@@ -147,6 +153,7 @@ fn allows(store: &[u32; store::PLACES], n: u8, round: Round, entry: u32) -> bool
 }
 
 // Whether the opening of a round with a value is accepted.
+#[tactic(auto, using(crate::proofs::Rules::rules_acceptance_accepts_opening))]
 pub fn accepts_opening(store: &[u32; store::PLACES], n: u8, round: Round, value: u16) -> bool
     ensures { result ≡ accepts_opening limits n (heard_in limits store.now) round.0 value }
 {
@@ -158,6 +165,7 @@ pub fn accepts_opening(store: &[u32; store::PLACES], n: u8, round: Round, value:
 }
 
 // Whether a speaker's ballot of a round with a value is accepted.
+#[tactic(auto, using(crate::proofs::Rules::rules_acceptance_accepts_ballot))]
 fn accepts_ballot(
     store: &[u32; store::PLACES],
     n: u8,
@@ -178,6 +186,7 @@ fn accepts_ballot(
 }
 
 // The boards of 1 to n whose accepted ballots of a round bear a value.
+#[tactic(auto, using(crate::proofs::Rules::rules_acceptance_ballots_for))]
 fn ballots_for(store: &[u32; store::PLACES], n: u8, round: Round, value: u16) -> u16
     ensures { result ≡ set_of n (λ (s : ℕ). accepts_ballot limits n (heard_in limits store.now) round.0 s value) }
 {
@@ -192,6 +201,7 @@ fn ballots_for(store: &[u32; store::PLACES], n: u8, round: Round, value: u16) ->
 }
 
 // The boards of 1 to n with an accepted ballot of a round, whatever it bears.
+#[tactic(auto, using(crate::proofs::Rules::rules_acceptance_ballots))]
 pub fn ballots(store: &[u32; store::PLACES], n: u8, round: Round) -> u16
     ensures { result ≡ set_of n (accepts_some limits n (heard_in limits store.now) round.0) }
 {
@@ -206,6 +216,7 @@ pub fn ballots(store: &[u32; store::PLACES], n: u8, round: Round) -> u16
 // The same by what one board has delivered.
 impl Delivered {
     // Whether a value is allowed in a round.
+    #[tactic(auto, using(crate::proofs::Rules::rules_delivered_delivered_allowed))]
     pub fn allowed(self, n: u8, round: Round, value: u16) -> bool
         ensures { result ≡ allowed limits n (heard limits self) round.0 value }
     {

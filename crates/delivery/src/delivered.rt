@@ -23,6 +23,7 @@ impl Delivered {
         from_one::within(k, Delivered::BOARDS)
     }
 
+    #[tactic(auto, unfolding(crate::specs::Delivered::nothing_delivered))]
     pub fn fresh() -> Delivered
         ensures { result ≡ nothing_delivered limits }
     {
@@ -40,6 +41,7 @@ impl Delivered {
 
     // With one statement more. What stands there already is kept, and a statement that no board
     // can make is left out.
+    #[tactic(auto, using(crate::proofs::Rules::rules_delivered_delivered_deliver))]
     pub fn deliver(self, speaker: u8, id: Identifier, value: u16) -> Delivered
         ensures { result ≡ deliver limits self speaker id.0 value }
     {

@@ -20,6 +20,7 @@ pub struct Owed {
 }
 
 // The sound boards other than the speaker that do not have a statement.
+#[tactic(auto, using(crate::proofs::Rules::rules_owed_lacking))]
 fn lacking(speaker: u8, sound: u16, have: u16) -> u16
     ensures { result ≡ set_of bits (lacks sound have speaker) }
 {
@@ -27,6 +28,7 @@ fn lacking(speaker: u8, sound: u16, have: u16) -> u16
 }
 
 impl Copies {
+    #[tactic(auto, unfolding(crate::specs::Owed::no_copies))]
     fn none() -> Copies
         ensures { result ≡ no_copies limits }
     {
@@ -36,6 +38,7 @@ impl Copies {
     }
 
     // The set under an identifier; nobody under a number that is none.
+    #[tactic(auto, using(crate::proofs::Rules::rules_owed_copies_receivers), unfolding(crate::specs::Owed::receivers_at))]
     fn receivers(self, id: Identifier) -> u16
         ensures { result ≡ receivers_at self id.0 }
     {
@@ -48,6 +51,7 @@ impl Copies {
     }
 
     // With this set under an identifier; unchanged where the number is none.
+    #[tactic(auto, using(crate::proofs::Rules::rules_owed_copies_with_receivers), unfolding(crate::specs::Owed::with_receivers_at))]
     fn with_receivers(self, id: Identifier, set: u16) -> Copies
         ensures { result ≡ with_receivers_at self id.0 set }
     {
@@ -62,6 +66,7 @@ impl Copies {
 }
 
 impl Owed {
+    #[tactic(auto, unfolding(crate::specs::Owed::nothing_owed))]
     pub fn none() -> Owed
         ensures { result ≡ nothing_owed limits }
     {
@@ -72,6 +77,7 @@ impl Owed {
     }
 
     // The copies of one speaker's statements; none where the number is no board's.
+    #[tactic(auto, using(crate::proofs::Rules::rules_owed_owed_copies), unfolding(crate::specs::Owed::copies_of))]
     pub fn copies(self, speaker: u8) -> Copies
         ensures { result ≡ copies_of limits self speaker }
     {
@@ -83,6 +89,7 @@ impl Owed {
     }
 
     // With those of one speaker replaced; unchanged where the number is no board's.
+    #[tactic(auto, using(crate::proofs::Rules::rules_owed_owed_with_copies), unfolding(crate::specs::Owed::with_copies))]
     fn with_copies(self, speaker: u8, copies: Copies) -> Owed
         ensures { result ≡ with_copies self speaker copies }
     {
@@ -95,6 +102,7 @@ impl Owed {
     }
 
     // The boards to which a copy of a speaker's statement is owed.
+    #[tactic(auto, unfolding(crate::specs::Owed::receivers))]
     pub fn receivers(self, speaker: u8, id: Identifier) -> u16
         ensures { result ≡ receivers limits self speaker id.0 }
     {
@@ -102,6 +110,7 @@ impl Owed {
     }
 
     // With the boards in `set` owed a copy of it instead.
+    #[tactic(auto, unfolding(crate::specs::Owed::with_receivers))]
     fn with_receivers(self, speaker: u8, id: Identifier, set: u16) -> Owed
         ensures { result ≡ with_receivers limits self speaker id.0 set }
     {
@@ -110,6 +119,7 @@ impl Owed {
     }
 
     // After a sound board signed: `sound` are the sound boards, `have` those that have the statement.
+    #[tactic(auto, using(crate::proofs::Rules::rules_owed_owed_after_signing), unfolding(crate::specs::Owed::after_signing))]
     pub fn after_signing(self, speaker: u8, id: Identifier, sound: u16, have: u16) -> Owed
         ensures { result ≡ after_signing limits self speaker id.0 sound have }
     {
@@ -119,6 +129,7 @@ impl Owed {
     }
 
     // After sound board `board` delivered a statement of `speaker`.
+    #[tactic(auto, using(crate::proofs::Rules::rules_owed_owed_after_delivery), unfolding(crate::specs::Owed::after_delivery))]
     pub fn after_delivery(
         self,
         board: u8,

@@ -27,6 +27,7 @@ impl Round {
     }
 
     // The board that opens this round, of n boards.
+    #[tactic(auto, unfolding(crate::specs::Rounds::coordinator))]
     pub fn coordinator(self, n: u8) -> u8
         ensures { result ≡ coordinator n self.0 }
     {
@@ -42,6 +43,7 @@ impl Round {
 
     // The identifier under which this round's opening or ballot is signed; 0, which is none, where
     // the number is no round.
+    #[tactic(auto, using(crate::proofs::Rules::rules_round_round_identifier), unfolding(crate::specs::Rounds::phase_of))]
     pub fn identifier(self, phase: Phase) -> Identifier
         ensures { result.0 ≡ identifier_of limits phase self.0 }
     {
@@ -56,6 +58,7 @@ impl Round {
     }
 
     // The round after this one; the last has none, and stays.
+    #[tactic(auto, using(crate::proofs::Rules::rules_round_round_next))]
     pub fn next(self) -> Round
         ensures { result.0 ≡ next_round limits self.0 }
     {

@@ -10,6 +10,7 @@ use signer::from_one;
 const BITS: u8 = 16;
 
 // Whether board k is in the set.
+#[tactic(auto, using(crate::proofs::Rules::rules_set_has))]
 pub fn has(set: u16, k: u8) -> bool
     ensures { result ≡ in_set set k }
 {
@@ -20,6 +21,7 @@ pub fn has(set: u16, k: u8) -> bool
 }
 
 // The set with board k in it.
+#[tactic(auto, using(crate::proofs::Rules::rules_set_with))]
 pub fn with(set: u16, k: u8) -> u16
     ensures { result ≡ with_board set k }
 {
@@ -30,6 +32,7 @@ pub fn with(set: u16, k: u8) -> u16
 }
 
 // The boards of either set.
+#[tactic(auto, using(crate::proofs::Rules::rules_set_union))]
 pub fn union(a: u16, b: u16) -> u16
     ensures { result ≡ union a b }
 {
@@ -37,6 +40,7 @@ pub fn union(a: u16, b: u16) -> u16
 }
 
 // The boards of the first set that are not in the second.
+#[tactic(auto, using(crate::proofs::Rules::rules_set_minus))]
 pub fn minus(a: u16, b: u16) -> u16
     ensures { result ≡ minus a b }
 {
@@ -44,6 +48,7 @@ pub fn minus(a: u16, b: u16) -> u16
 }
 
 // The set without board k.
+#[tactic(auto, using(crate::proofs::Rules::rules_set_without))]
 pub fn without(set: u16, k: u8) -> u16
     ensures { result ≡ without_board set k }
 {
@@ -51,6 +56,7 @@ pub fn without(set: u16, k: u8) -> u16
 }
 
 // How many of boards 1 to n are in the set.
+#[tactic(auto, using(crate::proofs::Rules::rules_set_count))]
 pub fn count(set: u16, n: u8) -> u8
     ensures { result ≡ count_in n (in_set set) }
 {

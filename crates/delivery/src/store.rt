@@ -12,6 +12,7 @@ use signer::Identifier;
 pub const PLACES: usize = Delivered::BOARDS as usize * Identifier::LAST as usize;
 
 // The place of what a speaker said under an identifier, from 1; 0 where no board can say it.
+#[tactic(auto, using(crate::proofs::Rules::rules_store_place))]
 pub fn place(speaker: u8, id: Identifier) -> usize
     ensures { result ≡ place_of limits speaker id.0 }
 {
@@ -26,6 +27,7 @@ pub fn place(speaker: u8, id: Identifier) -> usize
 }
 
 // The entry there; nothing stands at place 0.
+#[tactic(auto, using(crate::proofs::Rules::rules_store_entry), unfolding(crate::specs::Delivered::heard_in))]
 pub fn entry(store: &[u32; PLACES], speaker: u8, id: Identifier) -> u32
     ensures { result ≡ heard_in limits store.now speaker id.0 }
 {
