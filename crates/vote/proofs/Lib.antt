@@ -8,3 +8,4 @@ pub mod ProperLaws
 pub mod LifeLaws
 pub mod EstimateLaws
 pub mod ExampleLaws
+pub mod Rules

@@ -7,6 +7,7 @@ use delivery::{Round, acceptance, store};
 use signer::Log;
 
 // The value of a round's opening where it is accepted; the blank otherwise.
+#[tactic(auto, using(crate::proofs::Rules::rules_ballots_opened_value), unfolding(crate::specs::Ballots::opened_value))]
 pub fn opened_value(store: &[u32; store::PLACES], n: u8, round: Round) -> u16
     ensures { result ≡ opened_value limits n (heard_in limits store.now) round.0 }
 {
@@ -19,6 +20,7 @@ pub fn opened_value(store: &[u32; store::PLACES], n: u8, round: Round) -> u16
 
 // The value that so many accepted ballots of a round bear, or more; the blank where there is none. Only the
 // opening's value can be it, and where that is accepted so is each ballot that bears it.
+#[tactic(auto, using(crate::proofs::Rules::rules_ballots_value_with))]
 pub fn value_with(store: &[u32; store::PLACES], n: u8, round: Round, least: u8) -> u16
     ensures { result ≡ value_with limits n (heard_in limits store.now) round.0 least }
 {

@@ -36,6 +36,7 @@ pub struct Board {
 }
 
 impl Board {
+    #[tactic(auto, unfolding(crate::specs::Boards::fresh_board))]
     pub fn fresh() -> Board
         ensures { result ≡ fresh_board limits }
     {
@@ -50,6 +51,7 @@ impl Board {
     }
 
     // Whether it has a proposal, and so takes part in the vote.
+    #[tactic(auto, unfolding(crate::specs::Boards::is_started))]
     pub fn is_started(self) -> bool
         ensures { result ≡ is_started self.status }
     {
@@ -60,6 +62,7 @@ impl Board {
         }
     }
 
+    #[tactic(auto, unfolding(crate::specs::Boards::is_decided))]
     pub fn is_decided(self) -> bool
         ensures { result ≡ is_decided self.status }
     {
@@ -71,6 +74,7 @@ impl Board {
     }
 
     // Whether it takes no more turns: it is decided or spent.
+    #[tactic(auto, unfolding(crate::specs::Boards::is_ended))]
     pub fn is_ended(self) -> bool
         ensures { result ≡ is_ended self.status }
     {
@@ -83,6 +87,7 @@ impl Board {
     }
 
     // Whether it decided this value in this round.
+    #[tactic(auto, using(crate::proofs::Rules::rules_board_board_has_decided), unfolding(crate::specs::Boards::has_decided))]
     pub fn has_decided(self, round: Round, value: u16) -> bool
         ensures { result ≡ has_decided self.status round.0 value }
     {
@@ -99,6 +104,7 @@ impl Board {
     }
 
     // Starts the vote with this value; unchanged if it has started, or if the value is the blank.
+    #[tactic(auto, using(crate::proofs::Rules::rules_board_board_propose), unfolding(crate::specs::Boards::propose))]
     pub fn propose(self, value: u16) -> Board
         ensures { result ≡ propose self value }
     {
@@ -118,6 +124,7 @@ impl Board {
     }
 
     // Delivers a statement to the board, whatever its status.
+    #[tactic(auto, unfolding(crate::specs::Boards::hears, crate::specs::Boards::deliver_to))]
     pub fn deliver(mut self, statement: Statement) -> Board
         ensures { result ≡ deliver_to limits self statement }
     {
@@ -129,6 +136,7 @@ impl Board {
     }
 
     // The board suspects board k from here on.
+    #[tactic(auto, unfolding(crate::specs::Boards::suspect))]
     pub fn suspect(mut self, k: u8) -> Board
         ensures { result ≡ suspect self k }
     {
@@ -138,6 +146,7 @@ impl Board {
     }
 
     // It no longer does.
+    #[tactic(auto, unfolding(crate::specs::Boards::trust))]
     pub fn trust(mut self, k: u8) -> Board
         ensures { result ≡ trust self k }
     {
@@ -147,6 +156,7 @@ impl Board {
     }
 
     // How many ballots of a round it accepts that bear a value.
+    #[tactic(auto, using(crate::proofs::Rules::rules_board_board_tally), unfolding(crate::specs::Ballots::tally))]
     pub fn tally(self, n: u8, round: Round, value: u16) -> u8
         ensures { result ≡ tally limits n (heard limits self.delivered) round.0 value }
     {
@@ -155,6 +165,7 @@ impl Board {
 
     // An announcement that another board decided a value in a round. The board decides the same if its own
     // ballots bear it out; unchanged if not, or if it has not started or is decided already.
+    #[tactic(auto, using(crate::proofs::Rules::rules_board_board_announce), unfolding(crate::specs::Announcements::convinced, crate::specs::Announcements::announce, crate::specs::Boards::with_status))]
     pub fn announce(self, n: u8, round: Round, value: u16) -> Board
         ensures { result ≡ announce limits n self round.0 value }
     {

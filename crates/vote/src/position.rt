@@ -22,6 +22,7 @@ pub struct Position {
 }
 
 impl Position {
+    #[tactic(auto, unfolding(crate::specs::Boards::fresh_position))]
     pub(crate) fn fresh() -> Position
         ensures { result ≡ fresh_position }
     {
@@ -34,6 +35,7 @@ impl Position {
     }
 
     // At the start of round 1 with this estimate; the suspicions stay.
+    #[tactic(auto, unfolding(crate::specs::Boards::starting_with))]
     pub(crate) fn starting_with(self, estimate: u16) -> Position
         ensures { result ≡ starting_with self estimate }
     {
@@ -45,6 +47,7 @@ impl Position {
         }
     }
 
+    #[tactic(auto, unfolding(crate::specs::Turns::at_stage))]
     pub(crate) fn at_stage(self, stage: Stage) -> Position
         ensures { result ≡ at_stage self stage }
     {

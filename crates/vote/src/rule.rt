@@ -23,6 +23,7 @@ pub enum Move {
 
 impl Position {
     // Stage A.
+    #[tactic(auto, using(crate::proofs::Rules::rules_position_position_open_move))]
     fn open_move(self, n: u8, me: u8) -> Move
         ensures { result ≡ open_move n me self }
     {
@@ -33,6 +34,7 @@ impl Position {
     }
 
     // Whether the board may vote: its coordinator's opening is there, or the coordinator is suspected.
+    #[tactic(auto, using(crate::proofs::Rules::rules_position_position_may_vote))]
     fn may_vote(self, n: u8, store: &[u32; store::PLACES]) -> bool
         ensures { result ≡ may_vote limits n self (heard_in limits store.now) }
     {
@@ -44,6 +46,7 @@ impl Position {
     }
 
     // Stage B.
+    #[tactic(auto, using(crate::proofs::Rules::rules_position_position_vote_move))]
     fn vote_move(self, n: u8, store: &[u32; store::PLACES]) -> Move
         ensures { result ≡ vote_move limits n self (heard_in limits store.now) }
     {
@@ -54,6 +57,7 @@ impl Position {
     }
 
     // Whether the board may count: a quorum has ballots, and every board without one is suspected.
+    #[tactic(auto, using(crate::proofs::Rules::rules_position_position_may_count))]
     fn may_count(self, n: u8, store: &[u32; store::PLACES]) -> bool
         ensures { result ≡ may_count limits n self (heard_in limits store.now) }
     {
@@ -65,6 +69,7 @@ impl Position {
     }
 
     // The estimate that the round leaves the board with.
+    #[tactic(auto, using(crate::proofs::Rules::rules_position_position_next_estimate))]
     fn next_estimate(self, n: u8, store: &[u32; store::PLACES]) -> u16
         ensures { result ≡ next_estimate limits n self (heard_in limits store.now) }
     {
@@ -76,6 +81,7 @@ impl Position {
     }
 
     // The end of a round in which the board decides nothing.
+    #[tactic(auto, using(crate::proofs::Rules::rules_position_position_onward))]
     fn onward(self, n: u8, store: &[u32; store::PLACES]) -> Move
         ensures { result ≡ onward limits n self (heard_in limits store.now) }
     {
@@ -88,6 +94,7 @@ impl Position {
     }
 
     // Stage C.
+    #[tactic(auto, using(crate::proofs::Rules::rules_position_position_count_move))]
     fn count_move(self, n: u8, store: &[u32; store::PLACES]) -> Move
         ensures { result ≡ count_move limits n self (heard_in limits store.now) }
     {
@@ -102,6 +109,7 @@ impl Position {
     }
 
     // What the board does in its turn.
+    #[tactic(auto, using(crate::proofs::Rules::rules_position_position_rule))]
     pub fn rule(self, n: u8, me: u8, delivered: Delivered) -> Move
         ensures { result ≡ rule limits n me self (heard limits delivered) }
     {

@@ -28,6 +28,7 @@ pub struct Turn {
 
 impl Answer {
     // The answer's number in document 01's table.
+    #[tactic(auto, unfolding(crate::specs::Turns::turn_number))]
     pub fn number(self) -> u8
         ensures { result ≡ turn_number self }
     {
@@ -42,6 +43,7 @@ impl Answer {
 
 impl Move {
     // The answer to a turn in which the board does this.
+    #[tactic(auto, unfolding(crate::specs::Turns::answer_to))]
     fn answer(self) -> Answer
         ensures { result ≡ answer_to self }
     {
@@ -52,6 +54,7 @@ impl Move {
     }
 
     // What the board says.
+    #[tactic(auto, unfolding(crate::specs::Turns::said_in))]
     fn said(self, me: u8, round: Round) -> Said
         ensures { result ≡ said_in limits me round.0 self }
     {
@@ -71,6 +74,7 @@ impl Move {
     }
 
     // How far the board is afterwards.
+    #[tactic(auto, unfolding(crate::specs::Turns::status_after))]
     fn status(self, round: Round) -> Status
         ensures { result ≡ status_after round.0 self }
     {
@@ -84,6 +88,7 @@ impl Move {
 
 impl Said {
     // What a board has delivered that hears this.
+    #[tactic(auto, unfolding(crate::specs::Turns::hears_own, crate::specs::Boards::hears))]
     fn heard_by(self, delivered: Delivered) -> Delivered
         ensures { result ≡ hears_own limits delivered self }
     {
@@ -96,6 +101,7 @@ impl Said {
 
 impl Position {
     // Where the board stands afterwards.
+    #[tactic(auto, unfolding(crate::specs::Turns::position_after))]
     fn after(mut self, step: Move) -> Position
         ensures { result ≡ position_after limits step self }
     {
@@ -134,6 +140,7 @@ impl Board {
         }
     }
 
+    #[tactic(auto, unfolding(crate::specs::Boards::with_status))]
     fn with_status(self, status: Status) -> Board
         ensures { result ≡ with_status self status }
     {
@@ -147,6 +154,7 @@ impl Board {
     }
 
     // The turn of board `me` of n. What the board says it delivers to itself at once.
+    #[tactic(auto, using(crate::proofs::Rules::rules_board_board_turn), unfolding(crate::specs::Boards::with_status))]
     pub fn turn(mut self, n: u8, me: u8) -> Turn
         ensures { result ≡ turn limits n me self }
     {
