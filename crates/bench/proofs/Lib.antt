@@ -27,3 +27,4 @@ pub mod Demands
 pub mod ThinCall
 pub mod LentCall
 pub mod LentBench
+pub mod Rules

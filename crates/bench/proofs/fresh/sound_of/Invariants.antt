@@ -1,0 +1,17 @@
+use borrow.Author.Rules.{rules}
+use Prim.Native.Nat.{ℕ, ◌-◌, ◌≤◌, ◌<◌}
+use borrow.Author.Tests.{eq-eqb, ne_eqb}
+use native.Mathlib.Omega.{arith}
+use mathlib.Core.Path.{◌≡◌, sym, ap, ◌∙◌}
+use mathlib.Core.Logic.{⊎_elim}
+use Rattle.delivery.specs.Limits.{limits}
+use Rattle.delivery.specs.Sets.{set_of, bits}
+use Rattle.delivery.proofs.SetLaws.{set-none, set-take, set-leave}
+use Rattle.bench.specs.Setups.{is_marked_sound}
+use Rattle.bench.proofs.fresh.sound_of.Given as goal
+
+abbrev pub invariant-loop-k : goal.invariant-loop-k
+invariant-loop-k l = (l.n ≤ limits.boards) × (l.k ≤ l.n) × (l.sound ≡ set_of l.k (is_marked_sound l.marks))
+
+abbrev pub decreases-loop-k : goal.decreases-loop-k
+decreases-loop-k l = l.n - l.k
