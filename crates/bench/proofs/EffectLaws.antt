@@ -1,7 +1,6 @@
 -- Laws of what an accepted event does, by its kind. Assumes nothing.
 use borrow.Author.Tests.{ne_eqb}
 use mathlib.Core.Path.{◌≡◌, ◌∙◌}
-use Rattle.std.specs.Prelude.{if◌then◌else◌}
 use Rattle.signer.proofs.ConditionalLaws.{if-false}
 use Rattle.delivery.specs.Limits.{Limits}
 use Rattle.vote.specs.Boards.{propose, suspect, trust}

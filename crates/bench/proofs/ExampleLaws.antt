@@ -1,6 +1,5 @@
 -- The worked examples, by computation: every definition that they come to is opened here. Assumes nothing.
 use mathlib.Core.Path.{refl}
-use Rattle.std.specs.Prelude.{if◌then◌else◌}
 use Rattle.signer.specs.FromOne.{is_within, nth, set_nth}
 use Rattle.signer.specs.Log.{value_of, empty_log, entry_at, with_entry}
 use Rattle.signer.specs.Signer.{fresh_signer, grants, sign}

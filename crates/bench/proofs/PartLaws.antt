@@ -11,7 +11,6 @@ use lib.Dec.{eqb}
 use lib.ListN.{length, get_or, set}
 use lib.Seq.{set-get_or}
 use Rattle.signer.specs.FromOne.{is_within, nth, set_nth}
-use Rattle.std.specs.Prelude.{if◌then◌else◌}
 use Rattle.signer.specs.Log.{entry_at}
 use Rattle.signer.specs.Signer.{fresh_signer, sign}
 use Rattle.signer.specs.declared.signer.Signer.{Signer}

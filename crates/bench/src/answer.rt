@@ -32,7 +32,7 @@ pub enum Answer {
 
 impl FreshAnswer {
     // The answer's number in document 01's table.
-    #[tactic(auto, unfolding(crate::specs::Answers::fresh_number))] // rules_answer_freshanswer_number
+    #[tactic(auto, unfolding(crate::specs::Answers::fresh_number))]
     pub fn number(self) -> u8
         ensures { result ≡ fresh_number self }
     {
@@ -46,7 +46,7 @@ impl FreshAnswer {
 
 impl Answer {
     // The answer's number in document 01's table. Those that a board gives to its turn have the vote's.
-    #[tactic(auto, unfolding(crate::specs::Answers::answer_number))] // rules_answer_answer_number
+    #[tactic(auto, unfolding(crate::specs::Answers::answer_number))]
     pub fn number(self) -> u8
         ensures { result ≡ answer_number self }
     {
@@ -69,7 +69,7 @@ impl Answer {
     }
 
     // Whether the event is accepted: it is answered 0.
-    #[tactic(auto, unfolding(crate::specs::Answers::is_accepted))] // rules_answer_answer_is_accepted
+    #[tactic(auto, unfolding(crate::specs::Answers::is_accepted))]
     pub fn is_accepted(self) -> bool
         ensures { result ≡ is_accepted self }
     {

@@ -30,7 +30,7 @@ impl Bench {
     }
 
     // Board k; a fresh one where the number is no board's.
-    #[tactic(auto, using(crate::proofs::Rules::rules_bench_bench_board), unfolding(crate::specs::Benches::board_at))] // rules_bench_bench_board
+    #[tactic(auto, using(crate::proofs::Rules::rules_bench_bench_board), unfolding(crate::specs::Benches::board_at))]
     pub fn board(self, k: u8) -> Board
         ensures { result ≡ board_at limits self k }
     {
@@ -42,7 +42,7 @@ impl Bench {
     }
 
     // Board k's signer; a fresh one where the number is no board's.
-    #[tactic(auto, using(crate::proofs::Rules::rules_bench_bench_signer), unfolding(crate::specs::Benches::signer_at))] // rules_bench_bench_signer
+    #[tactic(auto, using(crate::proofs::Rules::rules_bench_bench_signer), unfolding(crate::specs::Benches::signer_at))]
     pub fn signer(self, k: u8) -> Signer
         ensures { result ≡ signer_at limits self k }
     {
@@ -61,7 +61,7 @@ impl Bench {
     }
 
     // What board k's signer has signed under an identifier, as a log's entry.
-    #[tactic(auto, unfolding(crate::specs::Benches::signed_by))] // rules_bench_bench_signed
+    #[tactic(auto, unfolding(crate::specs::Benches::signed_by))]
     pub fn signed(self, k: u8, id: Identifier) -> u32
         ensures { result ≡ signed_by limits self k id.0 }
     {
@@ -76,7 +76,7 @@ impl Bench {
     }
 
     // Of some boards, those that have delivered a speaker's statement under an identifier.
-    #[tactic(auto, using(crate::proofs::Rules::rules_bench_bench_holders_in), unfolding(crate::specs::Benches::holders, crate::specs::Benches::board_at))] // rules_bench_bench_holders_in
+    #[tactic(auto, using(crate::proofs::Rules::rules_bench_bench_holders_in), unfolding(crate::specs::Benches::holders, crate::specs::Benches::board_at))]
     pub(crate) fn holders_in(
         boards: [Board; Bench::BOARDS as usize],
         speaker: u8,

@@ -35,7 +35,7 @@ pub(crate) struct Effect {
 }
 
 // A signer, asked to sign what its board had to say.
-#[tactic(auto, unfolding(crate::specs::Parts::signer_after))] // rules_effect_signer_after
+#[tactic(auto, unfolding(crate::specs::Parts::signer_after))]
 fn signer_after(signer: Signer, said: Said) -> Signer
     ensures { result ≡ signer_after limits signer said }
 {
@@ -62,7 +62,7 @@ impl Effect {
 
 impl Event {
     // What a turn does; one that is answered by the last row leaves the parts as they are.
-    #[tactic(auto, using(crate::proofs::Rules::rules_event_event_turn))] // rules_event_event_turn
+    #[tactic(auto, using(crate::proofs::Rules::rules_event_event_turn))]
     fn turn(self, n: u8, a: Board, own: Signer) -> Effect
         ensures { (c : Bench) → self.kind ≡ turning → Own limits c self n a own → Steps limits c self (last_of (turn_row limits c self)) a own result }
     {
@@ -84,7 +84,7 @@ impl Event {
     }
 
     // What a delivery does.
-    #[tactic(auto, using(crate::proofs::Rules::rules_event_event_deliver))] // rules_event_event_deliver
+    #[tactic(auto, using(crate::proofs::Rules::rules_event_event_deliver))]
     fn deliver(self, a: Board, own: Signer) -> Effect
         ensures { (c : Bench) → self.kind ≡ delivering → board_at limits c self.a ≡ a → signer_at limits c self.a ≡ own → (result.answer ≡ Accepted) × (put_back limits c self result ≡ effect_of limits c self) }
     {
@@ -106,7 +106,7 @@ impl Event {
     }
 
     // What an event does that no row before the last applies to.
-    #[tactic(auto, using(crate::proofs::Rules::rules_event_event_effect))] // rules_event_event_effect
+    #[tactic(auto, using(crate::proofs::Rules::rules_event_event_effect))]
     fn effect(self, n: u8, a: Board, own: Signer) -> Effect
         ensures { (c : Bench) → Own limits c self n a own → Steps limits c self (last_of (turn_row limits c self)) a own result }
     {
@@ -135,7 +135,7 @@ impl Event {
     }
 
     // What it does to the parts of a bench; a refused one leaves them as they are.
-    #[tactic(auto, using(crate::proofs::Rules::rules_event_event_step))] // rules_event_event_step
+    #[tactic(auto, using(crate::proofs::Rules::rules_event_event_step))]
     pub(crate) fn step(self, a: Board, own: Signer, rest: Rest) -> Effect
         ensures { (c : Bench) → Has limits c self a own rest → Steps limits c self (check_of limits c self) a own result }
     {
@@ -147,7 +147,7 @@ impl Event {
     }
 
     // The copies that are owed once it has brought a statement, on a bench that has these boards.
-    #[tactic(auto, using(crate::proofs::Rules::rules_event_event_owed), unfolding(crate::specs::Parts::owed_by, crate::specs::Effects::after_saying, crate::specs::Effects::with_owed, crate::specs::Effects::after_hearing, crate::specs::Effects::with_board_at))] // rules_event_event_owed
+    #[tactic(auto, using(crate::proofs::Rules::rules_event_event_owed), unfolding(crate::specs::Parts::owed_by, crate::specs::Effects::after_saying, crate::specs::Effects::with_owed, crate::specs::Effects::after_hearing, crate::specs::Effects::with_board_at))]
     pub(crate) fn owed(
         self,
         said: Said,
@@ -174,7 +174,7 @@ impl Event {
 impl Bench {
     // With another board k, another signer for it, and other copies owed; where the number is no board's, with these
     // copies alone.
-    #[tactic(auto, using(crate::proofs::Rules::rules_bench_bench_with_parts))] // rules_bench_bench_with_parts
+    #[tactic(auto, using(crate::proofs::Rules::rules_bench_bench_with_parts))]
     fn with_parts(self, k: u8, board: Board, signer: Signer, owed: Owed) -> Bench
         ensures { result ≡ with_parts self k board signer owed }
     {
@@ -194,7 +194,7 @@ impl Bench {
     }
 
     // The first row of the table that applies.
-    #[tactic(auto, using(crate::proofs::Rules::rules_bench_bench_check))] // rules_bench_bench_check
+    #[tactic(auto, using(crate::proofs::Rules::rules_bench_bench_check))]
     pub fn check(self, e: Event) -> Answer
         ensures { result ≡ check_of limits self e }
     {
@@ -203,7 +203,7 @@ impl Bench {
     }
 
     // One event: answered, and its effect if it is accepted; a refused one leaves the bench as it is.
-    #[tactic(auto, using(crate::proofs::Rules::rules_bench_bench_event))] // rules_bench_bench_event
+    #[tactic(auto, using(crate::proofs::Rules::rules_bench_bench_event))]
     pub fn event(self, e: Event) -> Outcome
         ensures { result ≡ step_of limits self e }
     {

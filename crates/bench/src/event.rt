@@ -48,7 +48,7 @@ impl Event {
     }
 
     // The event that the first bytes of a list are; bytes that are not there count as 0.
-    #[tactic(auto, unfolding(crate::specs::Events::event_from))] // rules_event_event_read
+    #[tactic(auto, unfolding(crate::specs::Events::event_from))]
     pub fn read(bytes: &[u8]) -> Event
         ensures { result ≡ event_from bytes.now }
     {

@@ -19,7 +19,7 @@ pub struct Fresh {
 }
 
 // The mark of board k; sound where there is none.
-#[tactic(auto, using(crate::proofs::Rules::rules_fresh_mark))] // rules_fresh_mark
+#[tactic(auto, using(crate::proofs::Rules::rules_fresh_mark))]
 fn mark(marks: [u8; Bench::BOARDS as usize], k: u8) -> u8
     ensures { result ≡ nth marks k 0 }
 {
@@ -30,7 +30,7 @@ fn mark(marks: [u8; Bench::BOARDS as usize], k: u8) -> u8
 }
 
 // Whether the marks of boards 1 to n are marks.
-#[tactic(auto, using(crate::proofs::Rules::rules_fresh_are_marks), unfolding(crate::specs::Setups::is_mark_at))] // rules_fresh_are_marks
+#[tactic(auto, using(crate::proofs::Rules::rules_fresh_are_marks), unfolding(crate::specs::Setups::is_mark_at))]
 fn are_marks(marks: [u8; Bench::BOARDS as usize], n: u8) -> bool
     ensures { result ≡ every_in n (is_mark_at marks) }
 {
@@ -45,7 +45,7 @@ fn are_marks(marks: [u8; Bench::BOARDS as usize], n: u8) -> bool
 }
 
 // The boards of 1 to n that are marked sound.
-#[tactic(auto, using(crate::proofs::Rules::rules_fresh_sound_of), unfolding(crate::specs::Setups::is_marked_sound))] // rules_fresh_sound_of
+#[tactic(auto, using(crate::proofs::Rules::rules_fresh_sound_of), unfolding(crate::specs::Setups::is_marked_sound))]
 fn sound_of(marks: [u8; Bench::BOARDS as usize], n: u8) -> u16
     requires { n ≤ limits.boards }
     ensures { result ≡ set_of n (is_marked_sound marks) }
@@ -70,7 +70,7 @@ impl Bench {
     }
 
     // Nothing has happened yet on this bench.
-    #[tactic(auto, unfolding(crate::specs::Setups::bench_of))] // rules_bench_bench_of
+    #[tactic(auto, unfolding(crate::specs::Setups::bench_of))]
     fn of(n: u8, sound: u16) -> Bench
         ensures { result ≡ bench_of limits n sound }
     {
@@ -95,7 +95,7 @@ impl Bench {
     }
 
     // A fresh bench of n boards; marks are 0 for sound and 1 for faulty, and those after the n-th are not read.
-    #[tactic(auto, using(crate::proofs::Rules::rules_bench_bench_fresh), unfolding(crate::specs::Setups::fresh_of, crate::specs::Setups::fresh_bench, crate::specs::Setups::fresh_answer, crate::specs::Setups::setup_by))] // rules_bench_bench_fresh
+    #[tactic(auto, using(crate::proofs::Rules::rules_bench_bench_fresh), unfolding(crate::specs::Setups::fresh_of, crate::specs::Setups::fresh_bench, crate::specs::Setups::fresh_answer, crate::specs::Setups::setup_by))]
     pub fn fresh(n: u8, marks: [u8; Bench::BOARDS as usize]) -> Fresh
         ensures { result ≡ fresh_of limits n marks }
     {

@@ -30,7 +30,7 @@ pub struct Played {
 }
 
 // Whether the events of a list can be played, given the room for answers.
-#[tactic(auto, using(crate::proofs::Rules::rules_play_ending_of), unfolding(crate::specs::Runs::ending_of))] // rules_play_ending_of
+#[tactic(auto, using(crate::proofs::Rules::rules_play_ending_of), unfolding(crate::specs::Runs::ending_of))]
 fn ending_of(bytes: usize, room: usize) -> Ending
     ensures { result ≡ ending_of bytes room }
 {
@@ -44,7 +44,7 @@ fn ending_of(bytes: usize, room: usize) -> Ending
 }
 
 // Where board k stands in a list of boards; the first place where the number is no board's.
-#[tactic(auto, using(crate::proofs::Rules::rules_play_seat))] // rules_play_seat
+#[tactic(auto, using(crate::proofs::Rules::rules_play_seat))]
 fn seat(k: u8) -> usize
     ensures { (result < limits.boards) × (is_board limits k ≡ true → result ≡ k - 1) }
 {
@@ -56,7 +56,7 @@ fn seat(k: u8) -> usize
 
 impl Bench {
     // Plays so many events, and writes their answers.
-    #[tactic(auto, using(crate::proofs::Rules::rules_bench_bench_run))] // rules_bench_bench_run
+    #[tactic(auto, using(crate::proofs::Rules::rules_bench_bench_run))]
     fn run(self, count: usize, events: &[u8], answers: &mut [u8]) -> Bench
         requires { (event_bytes * count ≤ length events.now) × (count ≤ length answers.old) × (self.n ≤ limits.boards) }
         ensures { (result ≡ after limits self (events_in count events.now)) × (answers.new ≡ written (answers_to limits self (events_in count events.now)) answers.old) }
@@ -100,7 +100,7 @@ impl Bench {
     // Makes a fresh bench and plays a list of events into it, the bytes of each as they stand in a schedule. Each
     // answer's number is written to its place in `answers`, and the rest of `answers` stays. A list that cannot be
     // played leaves the bench fresh and `answers` as it was.
-    #[tactic(auto, using(crate::proofs::Rules::rules_bench_bench_play), unfolding(crate::specs::Runs::answers_after, crate::specs::Runs::played_of, crate::specs::Runs::played_by, crate::specs::Setups::fresh_of, crate::specs::Setups::fresh_bench, crate::specs::Setups::bench_of, crate::specs::Runs::after, crate::specs::Runs::answers_to, crate::specs::Runs::written))] // rules_bench_bench_play
+    #[tactic(auto, using(crate::proofs::Rules::rules_bench_bench_play), unfolding(crate::specs::Runs::answers_after, crate::specs::Runs::played_of, crate::specs::Runs::played_by, crate::specs::Setups::fresh_of, crate::specs::Setups::fresh_bench, crate::specs::Setups::bench_of, crate::specs::Runs::after, crate::specs::Runs::answers_to, crate::specs::Runs::written))]
     pub fn play(
         n: u8,
         marks: [u8; Bench::BOARDS as usize],

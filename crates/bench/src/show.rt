@@ -28,7 +28,7 @@ pub struct Shown {
 
 impl Letter {
     // The letter, as it is printed.
-    #[tactic(auto, unfolding(crate::specs::Shows::letter_byte))] // rules_show_letter_byte
+    #[tactic(auto, unfolding(crate::specs::Shows::letter_byte))]
     pub fn byte(self) -> u8
         ensures { result ≡ letter_byte self }
     {
@@ -44,7 +44,7 @@ impl Letter {
 }
 
 // How a sound board stands.
-#[tactic(auto, unfolding(crate::specs::Shows::standing))] // rules_show_standing
+#[tactic(auto, unfolding(crate::specs::Shows::standing))]
 fn standing(board: Board) -> Shown
     ensures { result ≡ standing board.position board.status }
 {
@@ -84,7 +84,7 @@ fn standing(board: Board) -> Shown
 
 impl Bench {
     // How board k stands: its letter, its round and its value.
-    #[tactic(auto, using(crate::proofs::Rules::rules_bench_bench_shown), unfolding(crate::specs::Shows::shown))] // rules_bench_bench_shown
+    #[tactic(auto, using(crate::proofs::Rules::rules_bench_bench_shown), unfolding(crate::specs::Shows::shown))]
     pub fn shown(self, k: u8) -> Shown
         ensures { result ≡ shown limits self k }
     {

@@ -18,7 +18,7 @@ use vote::{Answer as TurnAnswer, Board, Said};
 // What the table asks of an event alone.
 impl Event {
     // Whether the kind names a second board.
-    #[tactic(auto, using(crate::proofs::Rules::rules_event_event_uses_other), unfolding(crate::specs::Events::uses_other))] // rules_event_event_uses_other
+    #[tactic(auto, using(crate::proofs::Rules::rules_event_event_uses_other), unfolding(crate::specs::Events::uses_other))]
     fn uses_other(self) -> bool
         ensures { result ≡ uses_other self.kind }
     {
@@ -35,7 +35,7 @@ impl Event {
     }
 
     // Whether it has an identifier or a round.
-    #[tactic(auto, using(crate::proofs::Rules::rules_event_event_uses_id), unfolding(crate::specs::Events::uses_id))] // rules_event_event_uses_id
+    #[tactic(auto, using(crate::proofs::Rules::rules_event_event_uses_id), unfolding(crate::specs::Events::uses_id))]
     fn uses_id(self) -> bool
         ensures { result ≡ uses_id self.kind }
     {
@@ -49,7 +49,7 @@ impl Event {
     }
 
     // Whether it has a value.
-    #[tactic(auto, using(crate::proofs::Rules::rules_event_event_uses_value), unfolding(crate::specs::Events::uses_value))] // rules_event_event_uses_value
+    #[tactic(auto, using(crate::proofs::Rules::rules_event_event_uses_value), unfolding(crate::specs::Events::uses_value))]
     fn uses_value(self) -> bool
         ensures { result ≡ uses_value self.kind }
     {
@@ -59,14 +59,14 @@ impl Event {
         self.uses_id()
     }
 
-    #[tactic(auto, using(crate::proofs::Rules::rules_event_event_kind_row), unfolding(crate::specs::Table::kind_row))] // rules_event_event_kind_row
+    #[tactic(auto, using(crate::proofs::Rules::rules_event_event_kind_row), unfolding(crate::specs::Table::kind_row))]
     fn kind_row(self) -> bool
         ensures { result ≡ kind_row self }
     {
         !from_one::within(self.kind, Event::SIGN)
     }
 
-    #[tactic(auto, using(crate::proofs::Rules::rules_event_event_wrong_other), unfolding(crate::specs::Table::wrong_other))] // rules_event_event_wrong_other
+    #[tactic(auto, using(crate::proofs::Rules::rules_event_event_wrong_other), unfolding(crate::specs::Table::wrong_other))]
     fn wrong_other(self) -> bool
         ensures { result ≡ wrong_other self }
     {
@@ -76,7 +76,7 @@ impl Event {
         self.b != 0
     }
 
-    #[tactic(auto, using(crate::proofs::Rules::rules_event_event_wrong_id), unfolding(crate::specs::Table::wrong_id, crate::specs::Events::uses_id))] // rules_event_event_wrong_id
+    #[tactic(auto, using(crate::proofs::Rules::rules_event_event_wrong_id), unfolding(crate::specs::Table::wrong_id, crate::specs::Events::uses_id))]
     fn wrong_id(self) -> bool
         ensures { result ≡ wrong_id limits self }
     {
@@ -91,7 +91,7 @@ impl Event {
         self.id != 0
     }
 
-    #[tactic(auto, using(crate::proofs::Rules::rules_event_event_wrong_value), unfolding(crate::specs::Table::wrong_value, crate::specs::Events::uses_value, crate::specs::Events::uses_id))] // rules_event_event_wrong_value
+    #[tactic(auto, using(crate::proofs::Rules::rules_event_event_wrong_value), unfolding(crate::specs::Table::wrong_value, crate::specs::Events::uses_value, crate::specs::Events::uses_id))]
     fn wrong_value(self) -> bool
         ensures { result ≡ wrong_value self }
     {
@@ -107,7 +107,7 @@ impl Event {
         self.value != 0
     }
 
-    #[tactic(auto, using(crate::proofs::Rules::rules_event_event_fields_row), unfolding(crate::specs::Table::fields_row))] // rules_event_event_fields_row
+    #[tactic(auto, using(crate::proofs::Rules::rules_event_event_fields_row), unfolding(crate::specs::Table::fields_row))]
     fn fields_row(self) -> bool
         ensures { result ≡ fields_row limits self }
     {
@@ -120,7 +120,7 @@ impl Event {
         self.wrong_value()
     }
 
-    #[tactic(auto, using(crate::proofs::Rules::rules_event_event_pair_row), unfolding(crate::specs::Table::pair_row))] // rules_event_event_pair_row
+    #[tactic(auto, using(crate::proofs::Rules::rules_event_event_pair_row), unfolding(crate::specs::Table::pair_row))]
     fn pair_row(self) -> bool
         ensures { result ≡ pair_row self }
     {
@@ -135,7 +135,7 @@ impl Event {
 }
 
 // Whether a turn was answered so.
-#[tactic(auto, unfolding(crate::specs::Table::is_waiting))] // rules_table_is_waiting
+#[tactic(auto, unfolding(crate::specs::Table::is_waiting))]
 fn is_waiting(answer: TurnAnswer) -> bool
     ensures { result ≡ is_waiting answer }
 {
@@ -146,7 +146,7 @@ fn is_waiting(answer: TurnAnswer) -> bool
 }
 
 // Whether a signer refuses what a board has to say.
-#[tactic(auto, using(crate::proofs::Rules::rules_table_refuses), unfolding(crate::specs::Table::refuses))] // rules_table_refuses
+#[tactic(auto, using(crate::proofs::Rules::rules_table_refuses), unfolding(crate::specs::Table::refuses))]
 fn refuses(signer: Signer, said: Said) -> bool
     ensures { result ≡ refuses limits signer said }
 {
@@ -157,7 +157,7 @@ fn refuses(signer: Signer, said: Said) -> bool
 }
 
 // Whether what came of a turn is answered by the last row: the board waits, or its signer refuses what it says.
-#[tactic(auto, using(crate::proofs::Rules::rules_table_must_wait))] // rules_table_must_wait
+#[tactic(auto, using(crate::proofs::Rules::rules_table_must_wait))]
 pub(crate) fn must_wait(answer: TurnAnswer, said: Said, own: Signer) -> bool
     ensures { result ≡ (is_waiting answer or refuses limits own said) }
 {
@@ -169,7 +169,7 @@ pub(crate) fn must_wait(answer: TurnAnswer, said: Said, own: Signer) -> bool
 
 // What it asks of the parts of a bench that the event looks at.
 impl Event {
-    #[tactic(auto, using(crate::proofs::Rules::rules_event_event_boards_row), unfolding(crate::specs::Table::boards_row))] // rules_event_event_boards_row
+    #[tactic(auto, using(crate::proofs::Rules::rules_event_event_boards_row), unfolding(crate::specs::Table::boards_row))]
     fn boards_row(self, n: u8) -> bool
         ensures { (c : Bench) → c.n ≡ n → result ≡ boards_row c self }
     {
@@ -182,7 +182,7 @@ impl Event {
         !from_one::within(self.b, n)
     }
 
-    #[tactic(auto, using(crate::proofs::Rules::rules_event_event_mark_row), unfolding(crate::specs::Table::mark_row))] // rules_event_event_mark_row
+    #[tactic(auto, using(crate::proofs::Rules::rules_event_event_mark_row), unfolding(crate::specs::Table::mark_row))]
     fn mark_row(self, sound: u16) -> bool
         ensures { (c : Bench) → c.sound ≡ sound → result ≡ mark_row c self }
     {
@@ -192,7 +192,7 @@ impl Event {
         !set::has(sound, self.a)
     }
 
-    #[tactic(auto, using(crate::proofs::Rules::rules_event_event_start_row), unfolding(crate::specs::Table::start_row))] // rules_event_event_start_row
+    #[tactic(auto, using(crate::proofs::Rules::rules_event_event_start_row), unfolding(crate::specs::Table::start_row))]
     fn start_row(self, a: Board) -> bool
         ensures { (c : Bench) → board_at limits c self.a ≡ a → result ≡ start_row limits c self }
     {
@@ -208,7 +208,7 @@ impl Event {
         false
     }
 
-    #[tactic(auto, using(crate::proofs::Rules::rules_event_event_end_row), unfolding(crate::specs::Table::end_row))] // rules_event_event_end_row
+    #[tactic(auto, using(crate::proofs::Rules::rules_event_event_end_row), unfolding(crate::specs::Table::end_row))]
     fn end_row(self, a: Board) -> bool
         ensures { (c : Bench) → board_at limits c self.a ≡ a → result ≡ end_row limits c self }
     {
@@ -221,7 +221,7 @@ impl Event {
         false
     }
 
-    #[tactic(auto, using(crate::proofs::Rules::rules_event_event_signed_row), unfolding(crate::specs::Table::signed_row))] // rules_event_event_signed_row
+    #[tactic(auto, using(crate::proofs::Rules::rules_event_event_signed_row), unfolding(crate::specs::Table::signed_row))]
     fn signed_row(self, signed: u32) -> bool
         ensures { (c : Bench) → (self.kind ≡ delivering → signed_by limits c self.b self.id ≡ signed) → result ≡ signed_row limits c self }
     {
@@ -231,7 +231,7 @@ impl Event {
         signed != Log::entry_of(self.value)
     }
 
-    #[tactic(auto, using(crate::proofs::Rules::rules_event_event_last_row), unfolding(crate::specs::Table::last_row))] // rules_event_event_last_row
+    #[tactic(auto, using(crate::proofs::Rules::rules_event_event_last_row), unfolding(crate::specs::Table::last_row))]
     fn last_row(self, own: Signer) -> bool
         ensures { (c : Bench) → signer_at limits c self.a ≡ own → result ≡ last_row limits c self }
     {
@@ -242,7 +242,7 @@ impl Event {
         self.id <= last.0
     }
 
-    #[tactic(auto, using(crate::proofs::Rules::rules_event_event_delivered_row), unfolding(crate::specs::Table::delivered_row))] // rules_event_event_delivered_row
+    #[tactic(auto, using(crate::proofs::Rules::rules_event_event_delivered_row), unfolding(crate::specs::Table::delivered_row))]
     fn delivered_row(self, a: Board) -> bool
         ensures { (c : Bench) → board_at limits c self.a ≡ a → result ≡ delivered_row limits c self }
     {
@@ -253,7 +253,7 @@ impl Event {
         a.delivered.entry(self.b, id) != 0
     }
 
-    #[tactic(auto, using(crate::proofs::Rules::rules_event_event_announcer_row), unfolding(crate::specs::Table::announcer_row))] // rules_event_event_announcer_row
+    #[tactic(auto, using(crate::proofs::Rules::rules_event_event_announcer_row), unfolding(crate::specs::Table::announcer_row))]
     fn announcer_row(self, sound: u16, decided: bool) -> bool
         ensures { (c : Bench) → c.sound ≡ sound → (self.kind ≡ announcing → has_decided (board_at limits c self.b).status self.id self.value ≡ decided) → result ≡ announcer_row limits c self }
     {
@@ -266,7 +266,7 @@ impl Event {
         !decided
     }
 
-    #[tactic(auto, using(crate::proofs::Rules::rules_event_event_ballots_row), unfolding(crate::specs::Table::ballots_row))] // rules_event_event_ballots_row
+    #[tactic(auto, using(crate::proofs::Rules::rules_event_event_ballots_row), unfolding(crate::specs::Table::ballots_row))]
     fn ballots_row(self, n: u8, a: Board) -> bool
         ensures { (c : Bench) → c.n ≡ n → board_at limits c self.a ≡ a → result ≡ ballots_row limits c self }
     {
@@ -278,7 +278,7 @@ impl Event {
     }
 
     // The rows about the boards and signers that it names, but for the last.
-    #[tactic(auto, using(crate::proofs::Rules::rules_event_event_check_state), unfolding(crate::specs::Answers::is_accepted, crate::specs::Answers::answer_number))] // rules_event_event_check_state
+    #[tactic(auto, using(crate::proofs::Rules::rules_event_event_check_state), unfolding(crate::specs::Answers::is_accepted, crate::specs::Answers::answer_number))]
     fn check_state(self, a: Board, own: Signer, rest: Rest) -> Answer
         ensures { (c : Bench) → Has limits c self a own rest → boards_row c self ≡ false → first_of (state_rows limits c self) ≡ then_last result (turn_row limits c self) }
     {
@@ -308,7 +308,7 @@ impl Event {
 
     // The first row of the table that applies on a bench with these parts, but for the last: that row is about what
     // comes of a turn.
-    #[tactic(auto, using(crate::proofs::Rules::rules_event_event_check), unfolding(crate::specs::Table::check_of, crate::specs::Answers::is_accepted, crate::specs::Answers::answer_number))] // rules_event_event_check
+    #[tactic(auto, using(crate::proofs::Rules::rules_event_event_check), unfolding(crate::specs::Table::check_of, crate::specs::Answers::is_accepted, crate::specs::Answers::answer_number))]
     pub(crate) fn check(self, a: Board, own: Signer, rest: Rest) -> Answer
         ensures { (c : Bench) → Has limits c self a own rest → Checks limits c self result }
     {

@@ -1,9 +1,7 @@
 -- `are_marks` meets its contract. The loop's invariant: the marks of the boards passed are marks.
 -- Assumes nothing.
 -- a turn of the loop that passes
-use borrow.Author.Rules.{rules}
-use Prim.Native.Nat.{ℕ, ◌+◌, ◌-◌, ◌≤◌}
-use borrow.Author.Tests.{not-true, not-false}
+use Prim.Native.Nat.{ℕ, ◌+◌, ◌≤◌}
 use native.Mathlib.Omega.{arith}
 use native.Mathlib.Decide.{dec_le}
 use mathlib.Core.Bool.{Bool, true, true≢false}
@@ -36,8 +34,7 @@ returns-then-not-is_mark c =
 pub loop-k-preserved : goal.loop-k-preserved
 unfolding is_mark_at
 loop-k-preserved c =
-    let tested : c.is_mark.result ≡ is_mark_at c.args.marks (c.loop-k.k + 1) = c.is_mark.ensures ∙ ap is_mark c.mark.ensures in
-    (
+    let tested : c.is_mark.result ≡ is_mark_at c.args.marks (c.loop-k.k + 1) = c.is_mark.ensures ∙ ap is_mark c.mark.ensures in (
       omega arith,
       every-next c.loop-k.k (is_mark_at c.args.marks) c.loop-k.invariant.1 (sym tested ∙ c.if-not-is_mark.false),
     )

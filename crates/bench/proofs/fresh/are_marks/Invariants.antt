@@ -1,14 +1,8 @@
-use borrow.Author.Rules.{rules}
-use Prim.Native.Nat.{ℕ, ◌+◌, ◌-◌, ◌≤◌}
-use borrow.Author.Tests.{not-true, not-false}
-use native.Mathlib.Omega.{arith}
-use native.Mathlib.Decide.{dec_le}
-use mathlib.Core.Bool.{Bool, true, true≢false}
-use mathlib.Core.Path.{◌≡◌, sym, ap, ◌∙◌}
+use Prim.Native.Nat.{◌-◌, ◌≤◌}
+use mathlib.Core.Bool.{true}
+use mathlib.Core.Path.{◌≡◌}
 use Rattle.delivery.specs.Counting.{every_in}
-use Rattle.delivery.proofs.TestLaws.{fails}
-use Rattle.delivery.proofs.CountLaws.{every-reads, reads-every}
-use Rattle.bench.specs.Setups.{is_mark, is_mark_at}
+use Rattle.bench.specs.Setups.{is_mark_at}
 use Rattle.bench.proofs.fresh.are_marks.Given as goal
 
 abbrev pub invariant-loop-k : goal.invariant-loop-k

@@ -1,12 +1,7 @@
-use borrow.Author.Rules.{rules}
-use Prim.Native.Nat.{ℕ, ◌-◌, ◌≤◌, ◌<◌}
-use borrow.Author.Tests.{eq-eqb, ne_eqb}
-use native.Mathlib.Omega.{arith}
-use mathlib.Core.Path.{◌≡◌, sym, ap, ◌∙◌}
-use mathlib.Core.Logic.{⊎_elim}
+use Prim.Native.Nat.{◌-◌, ◌≤◌}
+use mathlib.Core.Path.{◌≡◌}
 use Rattle.delivery.specs.Limits.{limits}
-use Rattle.delivery.specs.Sets.{set_of, bits}
-use Rattle.delivery.proofs.SetLaws.{set-none, set-take, set-leave}
+use Rattle.delivery.specs.Sets.{set_of}
 use Rattle.bench.specs.Setups.{is_marked_sound}
 use Rattle.bench.proofs.fresh.sound_of.Given as goal
 

@@ -1,5 +1,4 @@
 -- `Bench::event` meets its contract: the parts that the event changes are put back. Assumes nothing.
-use borrow.Author.Rules.{rules}
 use mathlib.Core.Path.{refl, sym, ◌∙◌}
 use Rattle.signer.specs.FromOne.{set_nth}
 use Rattle.delivery.specs.Limits.{limits}

@@ -2,26 +2,21 @@
 -- Assumes nothing.
 -- whether board k has delivered the statement
 use borrow.Author.Rules.{rules}
-use Prim.Native.Nat.{ℕ, ◌+◌, ◌-◌, ◌≤◌, ◌<◌}
+use Prim.Native.Nat.{ℕ, ◌+◌, ◌-◌, ◌<◌}
 use borrow.Author.Tests.{eq-eqb, ne_eqb}
 use native.Mathlib.Omega.{arith}
-use mathlib.Core.Bool.{Bool}
 use mathlib.Core.List.{List}
 use mathlib.Core.Path.{◌≡◌, sym, ap, ◌∙◌}
-use mathlib.Core.Logic.{⊎_elim}
-use lib.Dec.{eqb}
 use lib.ListN.{length, get_or}
 use Rattle.signer.specs.FromOne.{nth}
 use Rattle.signer.proofs.FromOneLaws.{nth-any}
-use Rattle.delivery.specs.Tests.{neg}
 use Rattle.delivery.specs.Limits.{limits}
-use Rattle.delivery.specs.Sets.{set_of, bits}
+use Rattle.delivery.specs.Sets.{bits}
 use Rattle.delivery.specs.Delivered.{heard}
 use Rattle.delivery.proofs.TestLaws.{neg-in, neg-no}
-use Rattle.delivery.proofs.SetLaws.{set-none, set-take, set-leave}
+use Rattle.delivery.proofs.SetLaws.{set-take, set-leave}
 use Rattle.vote.specs.Boards.{fresh_board}
 use Rattle.vote.specs.declared.board.Board.{Board}
-use Rattle.bench.specs.Benches.{board_at, holders}
 use Rattle.bench.proofs.bench.Bench.holders_in.Invariants.{has}
 use Rattle.bench.proofs.bench.Bench.holders_in.Goals as goal
 use Rattle.bench.proofs.bench.Bench.holders_in.Goals.{else-entry-ne0, then-entry-ne0}

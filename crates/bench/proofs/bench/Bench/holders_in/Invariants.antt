@@ -1,24 +1,15 @@
-use borrow.Author.Rules.{rules}
-use Prim.Native.Nat.{ℕ, ◌+◌, ◌-◌, ◌≤◌, ◌<◌}
-use borrow.Author.Tests.{eq-eqb, ne_eqb}
-use native.Mathlib.Omega.{arith}
+use Prim.Native.Nat.{ℕ, ◌-◌, ◌≤◌}
 use mathlib.Core.Bool.{Bool}
 use mathlib.Core.List.{List}
-use mathlib.Core.Path.{◌≡◌, sym, ap, ◌∙◌}
-use mathlib.Core.Logic.{⊎_elim}
+use mathlib.Core.Path.{◌≡◌}
 use lib.Dec.{eqb}
-use lib.ListN.{length, get_or}
 use Rattle.signer.specs.FromOne.{nth}
-use Rattle.signer.proofs.FromOneLaws.{nth-any}
 use Rattle.delivery.specs.Tests.{neg}
 use Rattle.delivery.specs.Limits.{limits}
-use Rattle.delivery.specs.Sets.{set_of, bits}
+use Rattle.delivery.specs.Sets.{set_of}
 use Rattle.delivery.specs.Delivered.{heard}
-use Rattle.delivery.proofs.TestLaws.{neg-in, neg-no}
-use Rattle.delivery.proofs.SetLaws.{set-none, set-take, set-leave}
 use Rattle.vote.specs.Boards.{fresh_board}
 use Rattle.vote.specs.declared.board.Board.{Board}
-use Rattle.bench.specs.Benches.{board_at, holders}
 use Rattle.bench.proofs.bench.Bench.holders_in.Given as goal
 
 abbrev pub has : List Board → ℕ → ℕ → ℕ → Bool

@@ -1,16 +1,13 @@
 -- `Bench::play` meets its contract: how the list went says what was played, and agreement is demand 3 of those events.
 -- Assumes nothing.
-use borrow.Author.Rules.{rules}
 use Prim.Native.Nat.{ℕ, ◌/◌, ◌≤◌}
 use native.Mathlib.Omega.{arith}
-use denote.Enum.Declared.{tag_of}
-use types.Run.{OneOf, miss}
 use mathlib.Core.Path.{◌≡◌, refl, sym, ap, subst, ◌∙◌}
-use mathlib.Core.List.{List, [], ◌∷◌}
+use mathlib.Core.List.{List, []}
 use lib.ListN.{length}
 use Rattle.delivery.specs.Limits.{limits}
 use Rattle.bench.specs.Events.{event_bytes}
-use Rattle.bench.specs.Setups.{fresh_answer, bench_of, fresh_bench, fresh_of}
+use Rattle.bench.specs.Setups.{fresh_answer, fresh_bench, fresh_of}
 use Rattle.bench.specs.Runs.{after, answers_to, events_in, ending_of, played_by, events_played, written, played_of, answers_after}
 use Rattle.bench.specs.Story.{History, history_of}
 use Rattle.bench.specs.Claim.{Agreement}
@@ -22,9 +19,7 @@ use Rattle.bench.specs.declared.answer.FreshAnswer.{FreshAnswer}
 use Rattle.bench.specs.declared.play.Ending.{Ending}
 use Rattle.bench.specs.declared.play.Ending.TheVariants.{Played, Ragged, Short}
 use Rattle.bench.specs.declared.play.Played.{Played as PlayedList}
-use Rattle.bench.specs.contracts.play.Ending.{the_type}
-use Rattle.bench.proofs.RunLaws.{length-answers, length-written, played-fits, played-room, history-written}
-use Rattle.bench.proofs.SetupLaws.{limits-ground}
+use Rattle.bench.proofs.RunLaws.{length-answers, length-written, played-fits, history-written}
 use Rattle.bench.proofs.Demands.{history_from, agreed}
 use Rattle.bench.proofs.bench.Bench.play.Goals as goal
 

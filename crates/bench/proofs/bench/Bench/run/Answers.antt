@@ -1,18 +1,13 @@
 -- `Bench::run` meets its contract. The loop's invariant: playing the events that are left, and writing their answers,
 -- gives what playing them all gives, of the bench that the boards, signers and copies make. Assumes nothing.
 -- the bench that is played
-use borrow.Author.Rules.{rules}
-use Prim.Native.Nat.{ℕ, ◌+◌, ◌-◌, ◌*◌, ◌≤◌, ◌<◌}
+use Prim.Native.Nat.{ℕ, ◌+◌, ◌-◌}
 use native.Mathlib.Omega.{arith}
 use mathlib.Core.Path.{◌≡◌, refl, sym, ap, ◌∙◌}
-use mathlib.Core.List.{List}
-use lib.ListN.{length, drop, set, length-set, length-map}
+use lib.ListN.{drop, set, length-set}
 use lib.Seq.{sets}
 use borrow.Author.Rules.{part_to_end}
-use Rattle.signer.specs.declared.signer.Signer.{Signer}
 use Rattle.delivery.specs.Limits.{limits}
-use Rattle.delivery.specs.declared.owed.Owed.{Owed}
-use Rattle.vote.specs.declared.board.Board.{Board}
 use Rattle.bench.specs.Events.{event_bytes, event_from}
 use Rattle.bench.specs.Answers.{answer_number}
 use Rattle.bench.specs.Effects.{step_of}
@@ -20,7 +15,7 @@ use Rattle.bench.specs.Runs.{after, answers_to, events_in}
 use Rattle.bench.specs.Parts.{owed_by}
 use Rattle.bench.specs.declared.bench.Bench.{Bench}
 use Rattle.bench.specs.declared.event.Event.{Event}
-use Rattle.bench.proofs.RunLaws.{length-events, length-answers, after_next, answers_next, after_none, answers-none, sets-written}
+use Rattle.bench.proofs.RunLaws.{after_next, answers_next}
 use Rattle.bench.proofs.PartLaws.{having, step-answer, has-read, step-read}
 use Rattle.bench.proofs.bench.Bench.run.Invariants.{made}
 use Rattle.bench.proofs.bench.Bench.run.Goals as goal

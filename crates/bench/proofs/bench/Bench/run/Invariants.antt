@@ -1,24 +1,15 @@
-use borrow.Author.Rules.{rules}
-use Prim.Native.Nat.{ℕ, ◌+◌, ◌-◌, ◌*◌, ◌≤◌, ◌<◌}
-use native.Mathlib.Omega.{arith}
-use mathlib.Core.Path.{◌≡◌, refl, sym, ap, ◌∙◌}
+use Prim.Native.Nat.{ℕ, ◌-◌, ◌*◌, ◌≤◌}
+use mathlib.Core.Path.{◌≡◌}
 use mathlib.Core.List.{List}
-use lib.ListN.{length, drop, set, length-set, length-map}
+use lib.ListN.{length, drop}
 use lib.Seq.{sets}
-use borrow.Author.Rules.{part_to_end}
 use Rattle.signer.specs.declared.signer.Signer.{Signer}
 use Rattle.delivery.specs.Limits.{limits}
 use Rattle.delivery.specs.declared.owed.Owed.{Owed}
 use Rattle.vote.specs.declared.board.Board.{Board}
-use Rattle.bench.specs.Events.{event_bytes, event_from}
-use Rattle.bench.specs.Answers.{answer_number}
-use Rattle.bench.specs.Effects.{step_of}
+use Rattle.bench.specs.Events.{event_bytes}
 use Rattle.bench.specs.Runs.{after, answers_to, events_in}
-use Rattle.bench.specs.Parts.{owed_by}
 use Rattle.bench.specs.declared.bench.Bench.{Bench}
-use Rattle.bench.specs.declared.event.Event.{Event}
-use Rattle.bench.proofs.RunLaws.{length-events, length-answers, after_next, answers_next, after_none, answers-none, sets-written}
-use Rattle.bench.proofs.PartLaws.{having, step-answer, has-read, step-read}
 use Rattle.bench.proofs.bench.Bench.run.Given as goal
 
 abbrev pub made : ℕ → ℕ → List Board → List Signer → Owed → Bench

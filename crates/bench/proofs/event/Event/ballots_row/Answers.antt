@@ -1,9 +1,6 @@
 -- `Event::ballots_row` meets its contract. Assumes nothing.
-use borrow.Author.Rules.{rules}
-use borrow.Author.Tests.{eq-eqb, ne_eqb}
-use mathlib.Core.Path.{sym}
+use borrow.Author.Tests.{eq-eqb}
 use Rattle.delivery.specs.Tests.{◌and◌}
-use Rattle.delivery.proofs.TestLaws.{and-no-left}
 use Rattle.bench.specs.Table.{ballots_row}
 use Rattle.bench.proofs.event.Event.ballots_row.Goals as goal
 

@@ -1,20 +1,15 @@
 -- `Event::check` meets its contract: each test passes over its row, or stops there. Assumes nothing.
 -- the answer of a row that stops the event
-use borrow.Author.Rules.{rules}
 use Prim.Native.Nat.{ℕ}
-use mathlib.Core.Path.{◌≡◌, refl, sym, ◌∙◌}
-use mathlib.Core.Bool.{false, true≢false}
+use mathlib.Core.Path.{◌≡◌, sym, ◌∙◌}
+use mathlib.Core.Bool.{false}
 use lib.ListN.{drop}
 use Rattle.delivery.specs.Limits.{limits}
-use Rattle.bench.specs.Answers.{answer_number, is_accepted}
-use Rattle.bench.specs.Table.{boards_row, turn_row, first_of, table_of, check_of}
-use Rattle.bench.specs.Parts.{Has, Checks}
-use Rattle.bench.specs.declared.answer.Answer.{Answer}
-use Rattle.bench.specs.declared.answer.Answer.TheVariants.{NoKind, NoBoard, WrongField, WrongMark, SameBoard}
+use Rattle.bench.specs.Table.{boards_row, first_of, table_of, check_of}
+use Rattle.bench.specs.Parts.{Has}
 use Rattle.bench.specs.declared.bench.Bench.{Bench}
 use Rattle.bench.specs.declared.event.Event.{Event}
-use Rattle.bench.proofs.TableLaws.{first-takes, first-skips}
-use Rattle.bench.proofs.PartLaws.{stands}
+use Rattle.bench.proofs.TableLaws.{first-skips}
 use Rattle.vote.specs.declared.board.Board.{Board}
 use Rattle.signer.specs.declared.signer.Signer.{Signer}
 use Rattle.bench.specs.declared.parts.Rest.{Rest}

@@ -1,22 +1,18 @@
 -- `Event::check_state` meets its contract: each test passes over its row, or stops there. Assumes nothing.
 -- a bench that has the parts, and boards where the event names them
-use borrow.Author.Rules.{rules}
 use Prim.Native.Nat.{ℕ}
-use mathlib.Core.Path.{◌≡◌, refl, sym, ◌∙◌}
+use mathlib.Core.Path.{◌≡◌, sym, ◌∙◌}
 use mathlib.Core.Bool.{false}
 use lib.ListN.{drop}
 use Rattle.delivery.specs.Limits.{limits}
 use Rattle.vote.specs.Boards.{has_decided}
 use Rattle.bench.specs.Events.{delivering, announcing}
-use Rattle.bench.specs.Answers.{answer_number, is_accepted}
 use Rattle.bench.specs.Benches.{board_at, signer_at, signed_by}
 use Rattle.bench.specs.Table.{boards_row, first_of, state_rows}
 use Rattle.bench.specs.Parts.{Has}
 use Rattle.bench.specs.declared.bench.Bench.{Bench}
-use Rattle.bench.specs.declared.answer.Answer.TheVariants.{WrongStart, AtEnd, NotSigned, NotAbove, AlreadyDelivered, NotDecided, FewBallots}
-use Rattle.bench.proofs.AnswerLaws.{start-refused, end_refused}
-use Rattle.bench.proofs.TableLaws.{delivers-other, announces-other, boards-a, boards-b, first-takes, first-skips}
-use Rattle.bench.proofs.PartLaws.{stands, row_at_end}
+use Rattle.bench.proofs.TableLaws.{delivers-other, announces-other, boards-a, boards-b, first-skips}
+use Rattle.bench.proofs.PartLaws.{row_at_end}
 use Rattle.bench.specs.declared.event.Event.{Event}
 use Rattle.vote.specs.declared.board.Board.{Board}
 use Rattle.signer.specs.declared.signer.Signer.{Signer}

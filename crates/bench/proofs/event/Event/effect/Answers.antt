@@ -1,6 +1,5 @@
 -- `Event::effect` meets its contract: the tests say which kind the event has. Assumes nothing.
 -- a kind that is another number is not a turn
-use borrow.Author.Rules.{rules}
 use Prim.Native.Nat.{ℕ}
 use borrow.Author.Tests.{eq-eqb}
 use mathlib.Core.Bool.{false, true≢false}

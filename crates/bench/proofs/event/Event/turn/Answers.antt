@@ -1,5 +1,4 @@
 -- `Event::turn` meets its contract: the test says whether the last row applies. Assumes nothing.
-use borrow.Author.Rules.{rules}
 use mathlib.Core.Path.{◌≡◌, refl, sym, ap, ◌∙◌}
 use Rattle.delivery.specs.Tests.{◌or◌}
 use Rattle.delivery.specs.Limits.{limits}
@@ -8,9 +7,7 @@ use Rattle.bench.specs.Events.{turning}
 use Rattle.bench.specs.Table.{is_waiting, refuses, turn_row}
 use Rattle.bench.specs.Parts.{Own}
 use Rattle.bench.specs.declared.bench.Bench.{Bench}
-use Rattle.bench.specs.declared.answer.Answer.TheVariants.{MustWait}
-use Rattle.bench.proofs.AnswerLaws.{wait-refused}
-use Rattle.bench.proofs.PartLaws.{last-waits, put-turn, turn-waits, done, refuses-so}
+use Rattle.bench.proofs.PartLaws.{put-turn, turn-waits, done}
 use Rattle.bench.proofs.event.Event.turn.Goals as goal
 
 pub returns : goal.returns
