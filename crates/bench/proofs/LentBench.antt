@@ -4,9 +4,9 @@ use Prim.Native.Nat.{ℕ}
 use mathlib.Core.Path.{◌≡◌, ap, subst}
 use mathlib.Core.List.{[], ◌∷◌}
 use seplogic.Ra.Ura.{Ura}
-use seplogic.Ra.TreeShare.{full_share}
 use mir.Syntax.{named}
 use mir.Val.{Val, vptr}
+use base.Fraction.{full_share}
 use base.Logic.{SProp, ent, sep, via}
 use base.Fml.{GName, ftrue, flft}
 use prog.Memory.{Memory}
@@ -90,8 +90,8 @@ module _ {M : Type 1} {𝓤 : Ura M} (𝓛 : Logic 𝓤) (at_mem : Memory → SP
         𝓛.laws.⇛_mono _ _
         (qed 𝓛 (some (λ (m : Answer). ((‵ (flft (α ∷ []) full_share) ⊛ ‵ ftrue) ⊛ ‵ ((N.the_row).own_val m (w ∷ []))) ⊛ raw (Ensured e h α l o δ m)) ∷ []) ∵ pick ! (λ m.
         split ! $ move ! (1 ∷ []) $ use1 𝓛 (Says Φ e h α l o δ m) (clause m) $ pick ! (λ last.
-        split ! $ move ! (1 ∷ []) $ heard ! (Φ m last.0) (λ so. fsplit ! $ move ! (2 ∷ []) $ split ! $ split ! $
-        -- [the token; true; what the answer owns; the last value; …]
+        split ! $ move ! (1 ∷ []) $ heard ! (Φ m last.0) (λ so. fsplit ! $ fsplit ! $ move ! (3 ∷ []) $ split ! $ split ! $
+        -- [the token; true; what the answer owns; the last value; the borrow, closed; …]
         move ! (2 ∷ []) $ peeks ! N.the_row (Is N.the_row) (shows 𝓛 N.the_row) m (w ∷ []) (λ is. drop ! $
         show ! (λ (h' : Bench). sep 𝓤 (sep 𝓤 (A.lft (α ∷ []) full_share) (A.res δ ((B.the_row).coded.code h'))) (fact 𝓤 (Applied Φ w h'))) last.0 $ says ! (applied w m last.0 is so) $ move ! (0 ∷ 2 ∷ []) $ frame ! $ keep ! (0 ∷ []) $ done !)))))
 

@@ -7,9 +7,9 @@ use Prim.Native.Nat.{ℕ}
 use mathlib.Core.Path.{◌≡◌, refl, sym}
 use mathlib.Core.List.{List, [], ◌∷◌}
 use seplogic.Ra.Ura.{Ura}
-use seplogic.Ra.TreeShare.{full_share}
-use mir.Syntax.{Name, Ty, named, Place, Opd as Operand, Body as Code, seq, call}
+use mir.Syntax.{Callee, Ty, named, Place, Opd as Operand, Body as Code, seq, call}
 use mir.Val.{Val, vptr}
+use base.Fraction.{full_share}
 use base.Logic.{SProp, ent, sep}
 use base.Fml.{GName, fat, fsep, flft, flent, fres}
 use prog.Wp.{Env, Calls, Loops}
@@ -36,20 +36,20 @@ lent_at l o δ h = record { ref_ptr = (l, o); ghost_name = δ; now = h }
 module _ {M : Type 1} {𝓤 : Ura M} (𝓛 : Logic 𝓤) (R : RattleType) (τ : Ty) (one : R.mir ≡ τ ∷ []) (h : R.Denot) (b : ℕ) where
   open 𝓛 use {H}
 
-  local-in : (v : Val) → ent 𝓤 (sep 𝓤 (H.at full_share τ b 0 v) (sem 𝓛 (R.own h (v ∷ [])))) (sem 𝓛 (part_at R full_share h b 0))
+  local-in : (v : Val) → ent 𝓤 (sep 𝓤 (H.at full_share τ b 0 v) (sem 𝓛 (R.own_val h (v ∷ [])))) (sem 𝓛 (part_at R full_share h b 0))
   unfolding part_of
   local-in v =
-      qed 𝓛 (‵ (fat full_share τ b 0 v) ∷ ‵ (R.own h (v ∷ [])) ∷ []) ∵ use1 𝓛 (‵ (cell_at full_share (τ ∷ []) (v ∷ []) b 0)) (𝓛.laws.at_raw full_share τ b 0 v) $
-      rewrite ! 0 (λ (τs : List Ty). ‵ (cell_at full_share τs (v ∷ []) b 0)) (sym one) refl $ fjoin ! $ fpack ! (List Val) (λ us. fsep (cell_at full_share R.mir us b 0) (R.own h us)) (v ∷ []) $ done !
+      qed 𝓛 (‵ (fat full_share τ b 0 v) ∷ ‵ (R.own_val h (v ∷ [])) ∷ []) ∵ use1 𝓛 (‵ (cell_at full_share (τ ∷ []) (v ∷ []) b 0)) (𝓛.laws.at_raw full_share τ b 0 v) $
+      rewrite ! 0 (λ (τs : List Ty). ‵ (cell_at full_share τs (v ∷ []) b 0)) (sym one) refl $ fjoin ! $ fpack ! (List Val) (λ us. fsep (cell_at full_share R.mir us b 0) (R.own_val h us)) (v ∷ []) $ done !
 
-  local_out : (val : R.Denot → Val) → Tells R (Is R) (λ x. val x ∷ []) → ent 𝓤 (sem 𝓛 (part_at R full_share h b 0)) (sep 𝓤 (H.at full_share τ b 0 (val h)) (sem 𝓛 (R.own h (val h ∷ []))))
+  local_out : (val : R.Denot → Val) → Tells R (Is R) (λ x. val x ∷ []) → ent 𝓤 (sem 𝓛 (part_at R full_share h b 0)) (sep 𝓤 (H.at full_share τ b 0 (val h)) (sem 𝓛 (R.own_val h (val h ∷ []))))
   unfolding part_of
   local_out val tells =
       qed 𝓛 (‵ (part_at R full_share h b 0) ∷ []) ∵ fpick ! (λ vs. fsplit ! $ spelt ! R (Is R) (shows 𝓛 R) (λ x. val x ∷ []) tells full_share h vs b 0 $
       rewrite ! 0 (λ (τs : List Ty). ‵ (cell_at full_share τs (val h ∷ []) b 0)) one refl $ use1 𝓛 (‵ (fat full_share τ b 0 (val h))) (𝓛.laws.raw_at full_share τ b 0 (val h)) $ frame ! $ done !)
 
 -- what is known of the call
-module _ {M : Type 1} {𝓤 : Ura M} (𝓛 : Logic 𝓤) (C : Calls 𝓤 𝓛.H) (f : Name) (R : RattleType) where
+module _ {M : Type 1} {𝓤 : Ura M} (𝓛 : Logic 𝓤) (C : Calls 𝓤 𝓛.H) (f : Callee) (R : RattleType) where
   -- what is had once it has returned w: the token, and what says which struct was left under the name δ
   open 𝓛 use {A}
 
@@ -62,7 +62,7 @@ module _ {M : Type 1} {𝓤 : Ura M} (𝓛 : Logic 𝓤) (C : Calls 𝓤 𝓛.H)
     pub told : (w : Val) → ent 𝓤 (Q w) (mean 𝓛 (Left Φ α δ w))
 
 -- the operands are read with two entries ahead of Γ: what the call is handed, and what the lender keeps
-module _ {M : Type 1} {𝓤 : Ura M} {𝓛 : Logic 𝓤} {K : Type 0} {Γ : List (Item 𝓤)} {E : Env 𝓤 𝓛.H} {C : Calls 𝓤 𝓛.H} {Λ : Loops 𝓤 𝓛.H} {q : Post 𝓤 𝓛.H} {f : Name} {xs : List Operand} {d : Place} {rest : Code} where
+module _ {M : Type 1} {𝓤 : Ura M} {𝓛 : Logic 𝓤} {K : Type 0} {Γ : List (Item 𝓤)} {E : Env 𝓤 𝓛.H} {C : Calls 𝓤 𝓛.H} {Λ : Loops 𝓤 𝓛.H} {q : Post 𝓤 𝓛.H} {f : Callee} {xs : List Operand} {d : Place} {rest : Code} where
   open 𝓛 use {H}
 
   pub calls-lent : K → (R : RattleType) (σ : Ty) (one : R.mir ≡ σ ∷ []) (val : R.Denot → Val) → Tells R (Is R) (λ x. val x ∷ []) → Makes 𝓛 R (Is R) → FmC 𝓤 H 𝓛.laws C
@@ -79,5 +79,5 @@ module _ {M : Type 1} {𝓤 : Ura M} {𝓛 : Logic 𝓤} {K : Type 0} {Γ : List
       use1 𝓛 (Left 𝓛 C f R Φ α δ w) ((lent α δ).told w) $ await t tt $ pick t (λ h'. split t $ split t $
       -- [the token; the last value; Φ; the lender's part; Γ]
       lft_end t tt $ move t (0 ∷ 3 ∷ 1 ∷ []) $ use3 𝓛 (later (‵ (part_at R full_share h' l 0))) (ref_back 𝓛 R (α ∷ []) δ h' l 0) $ await t tt $
-      use1 𝓛 (‵ (fat full_share σ l 0 (val h')) ⊛ ‵ (R.own h' (val h' ∷ []))) (local_out 𝓛 R σ one h' l val tells) $ split t $
+      use1 𝓛 (‵ (fat full_share σ l 0 (val h')) ⊛ ‵ (R.own_val h' (val h' ∷ []))) (local_out 𝓛 R σ one h' l val tells) $ split t $
       move t (1 ∷ []) $ peeks t R (Is R) (shows 𝓛 R) h' (val h' ∷ []) (λ is'. drop t $ move t (1 ∷ []) $ heard t (Φ w h') (λ so. k w h' is' so))))))

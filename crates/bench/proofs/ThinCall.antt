@@ -9,12 +9,12 @@ use mathlib.Core.Path.{◌≡◌, refl, sym, subst}
 use mathlib.Core.Option.{some}
 use mathlib.Core.List.{[], ◌∷◌, List}
 use seplogic.Ra.Ura.{Ura}
-use seplogic.Ra.TreeShare.{full_share}
 use lib.Dec.{T}
-use mir.Syntax.{Sym, Name, Ty, Tys, ty_ref, ty_struct, named, mut, place, deref, field, copy, rv_opd, seq, assign, call, return, local, value_local, Fn}
+use mir.Syntax.{Sym, Callee, Ty, Tys, ty_ref, ty_struct, named, mut, place, deref, field, copy, rv_opd, seq, assign, call, return, local, value_local, Fn}
 use mir.Val.{Val, Vals, vptr, vstruct, has_ty, WT}
 use mir.Raw.{raw as raw_ty}
 use mir.Fields.{get_v}
+use base.Fraction.{full_share}
 use base.Logic.{SProp, ent, sep, emp}
 use base.Fml.{GName, Lft, Share, ftrue, fat, flft, fobs, fbor}
 use prog.Memory.{field_at}
@@ -42,12 +42,14 @@ pub record Headed (ω : Sym) (fs : Tys) (R : RattleType) (val : R.Denot → Val)
   pub first : get_v parts 0 ≡ val head
 
 -- the types: the struct's, as it is held and behind a reference, that of e, the answer's, and the fields of what `core` returns
-module _ (core : Name) (σ ρ ε ν : Ty) (ω : Sym) (fs : Tys) where
+module _ (core : Callee) (σ ρ ε ν : Ty) (ω : Sym) (fs : Tys) where
   abbrev pub thin : Fn
   thin =
       record {
         lifetimes = 1;
         outlives = [];
+        ty_params = [];
+        givens = 0;
         params = 2;
         locals = local ν value_local ∷ local (ty_ref (named 0) mut ρ) value_local ∷ local ε value_local ∷ local (ty_struct ω fs) value_local ∷ local σ value_local ∷ [];
         body =
