@@ -12,7 +12,6 @@ use seplogic.Ra.Ura.{Ura}
 use lib.Dec.{T}
 use mir.Syntax.{Sym, Callee, Ty, Tys, ty_ref, ty_struct, named, mut, place, deref, field, copy, rv_opd, seq, assign, call, return, local, value_local, Fn}
 use mir.Val.{Val, Vals, vptr, vstruct, has_ty, WT}
-use mir.Raw.{raw as raw_ty}
 use mir.Fields.{get_v}
 use base.Fraction.{full_share}
 use base.Logic.{SProp, ent, sep, emp}
@@ -51,12 +50,13 @@ module _ (core : Callee) (σ ρ ε ν : Ty) (ω : Sym) (fs : Tys) where
         ty_params = [];
         givens = 0;
         params = 2;
-        locals = local ν value_local ∷ local (ty_ref (named 0) mut ρ) value_local ∷ local ε value_local ∷ local (ty_struct ω fs) value_local ∷ local σ value_local ∷ [];
+        locals = local ν value_local ∷ local (ty_ref (named 0) mut ρ) value_local ∷ local ε value_local ∷ local (ty_struct ω fs) value_local ∷ local σ value_local ∷ local σ value_local ∷ [];
         body =
             seq (assign (place 4 []) (rv_opd (copy (place 1 (deref σ ∷ [])))))
             (seq (call core (copy (place 4 []) ∷ copy (place 2 []) ∷ []) (place 3 []))
-            (seq (assign (place 1 (deref σ ∷ [])) (rv_opd (copy (place 3 (field 0 ∷ [])))))
-            (seq (assign (place 0 []) (rv_opd (copy (place 3 (field 1 ∷ []))))) return)));
+            (seq (assign (place 5 []) (rv_opd (copy (place 3 (field 0 ∷ [])))))
+            (seq (assign (place 1 (deref σ ∷ [])) (rv_opd (copy (place 5 []))))
+            (seq (assign (place 0 []) (rv_opd (copy (place 3 (field 1 ∷ []))))) return))));
       }
 
   module _ (R : RattleType) (val : R.Denot → Val) (Φ : R.Denot → Val → Type 0) where
@@ -78,19 +78,21 @@ module _ (core : Callee) (σ ρ ε ν : Ty) (ω : Sym) (fs : Tys) where
       walk =
           qed 𝓛 (‵ (fobs γ (R.coded.code h)) ∷ ‵ (fbor κ (Body (mem R) b o γ)) ∷ ‵ (flft κ q) ∷ []) ∵
           enter ! C Λ thin (vptr b o ∷ e ∷ []) _ $
-          alloc1 ! (λ l₀. alloc1 ! (λ l₁. alloc1 ! (λ l₂. alloc1 ! (λ l₃. alloc1 ! (λ l₄. alloc0 ! $ params1 ! $ pass1 ! (init ! 6 refl (tt, tt)) $ pass1 ! (init ! 4 refl e-typed) $ pass0 ! $
-          move ! (10 ∷ 11 ∷ 12 ∷ []) $ opens ! tt R {h = h} b o (λ vs. spelt ! R (Is R) (shows 𝓛 R) (λ x. val x ∷ []) tells full_share h vs b o $
+          alloc1 ! (λ l₀. alloc1 ! (λ l₁. alloc1 ! (λ l₂. alloc1 ! (λ l₃. alloc1 ! (λ l₄. alloc1 ! (λ l₅. alloc0 ! $ params1 ! $ pass1 ! (init ! 8 refl (tt, tt)) $ pass1 ! (init ! 6 refl e-typed) $ pass0 ! $
+          move ! (12 ∷ 13 ∷ 14 ∷ []) $ opens ! tt R {h = h} b o (λ vs. spelt ! R (Is R) (shows 𝓛 R) (λ x. val x ∷ []) tells full_share h vs b o $
           move ! (1 ∷ []) $ peeks ! R (Is R) (shows 𝓛 R) h (val h ∷ []) (λ was. drop ! $ rewrite ! 0 (λ (τs : List Ty). ‵ (cell_at full_share τs (val h ∷ []) b o)) one refl $
-          -- [the struct's cell; the open borrow; obs; auth; _4; …; _3; …; _2; …; _1; …; room for _0; …]
-          assigns ! (of_opd ! (load ! (from ! (hop ! (look ! 10 refl) (stop !))) (look_raw ! 0 refl))) (from ! (stop !)) (init ! 4 refl (typed h was)) $
-          nothing ! $ calls_from ! fm (‵ ftrue) (val h ∷ e ∷ []) Q (meets was) (and_then ! (load ! (from ! (stop !)) (look ! 5 refl)) (and_then ! (load ! (from ! (stop !)) (look ! 9 refl)) (no_more !))) (λ v.
+          -- [the struct's cell; the open borrow; obs; auth; _5; …; _4; …; _3; …; _2; …; _1; …; room for _0; …]
+          assigns ! (of_opd ! (load ! (from ! (hop ! (look ! 12 refl) (stop !))) (look_raw ! 0 refl))) (from ! (stop !)) (init ! 6 refl (typed h was)) $
+          nothing ! $ calls_from ! fm (‵ ftrue) (val h ∷ e ∷ []) Q (meets was) (and_then ! (load ! (from ! (stop !)) (look ! 7 refl)) (and_then ! (load ! (from ! (stop !)) (look ! 11 refl)) (no_more !))) (λ v.
           use1 𝓛 (later (raw (fact 𝓤 (Back v)))) (told v) $ await ! tt $ heard ! (Back v) (λ back.
-          land ! (from ! (stop !)) (init ! 6 refl back.outcome.typed) $ rewrite ! 6 (λ (u : Val). ‵ (fat full_share (ty_struct ω fs) l₃ 0 u)) back.outcome.spelled refl $
-          assigns ! (of_opd ! (load ! (from ! (fld ! at_first (stop !))) (look_in ! 6 (sub ! 0 at_first (whole !))))) (from ! (hop ! (look ! 10 refl) (stop !))) (store_raw ! 0 refl (subst (λ (u : Val). T (has_ty σ u) × WT u) (sym back.outcome.first) (typed back.outcome.head back.outcome.head-is))) $
-          assigns ! (of_opd ! (load ! (from ! (fld ! at_second (stop !))) (look_in ! 6 (sub ! 1 at_second (whole !))))) (from ! (stop !)) (init ! 12 refl (subst (λ (u : Val). T (has_ty ν u) × WT u) (sym back.second) back.answer_typed)) $
-          rewrite ! 0 (λ (u : Val). ‵ (fat full_share (raw_ty σ) b o u)) back.outcome.first refl $ rewrite ! 12 (λ (u : Val). ‵ (fat full_share ν l₀ 0 u)) back.second refl $
+          land ! (from ! (stop !)) (init ! 8 refl back.outcome.typed) $ rewrite ! 8 (λ (u : Val). ‵ (fat full_share (ty_struct ω fs) l₃ 0 u)) back.outcome.spelled refl $
+          assigns ! (of_opd ! (load ! (from ! (fld ! at_first (stop !))) (look_in ! 8 (sub ! 0 at_first (whole !))))) (from ! (stop !)) (init ! 4 refl (subst (λ (u : Val). T (has_ty σ u) × WT u) (sym back.outcome.first) (typed back.outcome.head back.outcome.head-is))) $
+          rewrite ! 4 (λ (u : Val). ‵ (fat full_share σ l₅ 0 u)) back.outcome.first refl $
+          assigns ! (of_opd ! (load ! (from ! (stop !)) (look ! 4 refl))) (from ! (hop ! (look ! 12 refl) (stop !))) (store_raw ! 0 refl (typed back.outcome.head back.outcome.head-is)) $
+          assigns ! (of_opd ! (load ! (from ! (fld ! at_second (stop !))) (look_in ! 8 (sub ! 1 at_second (whole !))))) (from ! (stop !)) (init ! 14 refl (subst (λ (u : Val). T (has_ty ν u) × WT u) (sym back.second) back.answer_typed)) $
+          rewrite ! 14 (λ (u : Val). ‵ (fat full_share ν l₀ 0 u)) back.second refl $
           owned ! R (Is R) makes back.outcome.head _ back.outcome.head-is $ move ! (1 ∷ 0 ∷ []) $ rewrite ! 0 (λ (τs : List Ty). ‵ (cell_at full_share τs (val back.outcome.head ∷ []) b o)) (sym one) refl $ closes ! tt R back.outcome.head (val back.outcome.head ∷ []) b o $
-          -- [obs; the borrow; the token; _4; …; _3; …; _2; …; _1; …; _0; …]
-          returns ! (look ! 11 refl) $ forget ! 3 refl $ forget ! 5 refl $ forget ! 7 refl $ forget ! 9 refl $ forget ! 11 refl $
-          move ! (11 ∷ 12 ∷ []) $ free1 ! $ move ! (9 ∷ 10 ∷ []) $ free1 ! $ move ! (7 ∷ 8 ∷ []) $ free1 ! $ move ! (5 ∷ 6 ∷ []) $ free1 ! $ move ! (3 ∷ 4 ∷ []) $ free1 ! $ free0 ! $
-          keep ! (0 ∷ 1 ∷ 2 ∷ []) $ by ! (exits back.outcome.head back.answer back.so))))))))))
+          -- [obs; the borrow; the token; _5; …; _4; …; _3; …; _2; …; _1; …; _0; …]
+          returns ! (look ! 13 refl) $ forget ! 3 refl $ forget ! 5 refl $ forget ! 7 refl $ forget ! 9 refl $ forget ! 11 refl $ forget ! 13 refl $
+          move ! (13 ∷ 14 ∷ []) $ free1 ! $ move ! (11 ∷ 12 ∷ []) $ free1 ! $ move ! (9 ∷ 10 ∷ []) $ free1 ! $ move ! (7 ∷ 8 ∷ []) $ free1 ! $ move ! (5 ∷ 6 ∷ []) $ free1 ! $ move ! (3 ∷ 4 ∷ []) $ free1 ! $ free0 ! $
+          keep ! (0 ∷ 1 ∷ 2 ∷ []) $ by ! (exits back.outcome.head back.answer back.so)))))))))))
