@@ -3,7 +3,6 @@ use native.Mathlib.Omega.{arith}
 use mathlib.Core.Path.{◌≡◌, refl, sym, ap, ◌∙◌}
 use mathlib.Core.List.{[], ◌∷◌, flat_map}
 use Rattle.signer.specs.FromOne.{is_within, nth}
-use Rattle.std.specs.Prelude.{if◌then◌else◌}
 use Rattle.signer.specs.Examples.{letter-d}
 use Rattle.delivery.specs.Limits.{limits}
 use Rattle.delivery.specs.Examples.{letter-a, letter-b, letter-c}

@@ -12,3 +12,4 @@ pub mod PrintLaws
 pub mod PlayLaws
 pub mod ExampleLaws
 pub mod Demands
+pub mod Rules

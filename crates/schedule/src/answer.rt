@@ -23,6 +23,7 @@ pub enum FileAnswer {
 
 impl Fault {
     // The fault's number in document 01's table.
+    #[tactic(auto, unfolding(crate::specs::Files::fault_number))]
     pub fn number(self) -> u8
         ensures { result ≡ fault_number self }
     {
@@ -38,6 +39,7 @@ impl Fault {
 
 impl FileAnswer {
     // The answer's number: 0, or the fault's.
+    #[tactic(auto, unfolding(crate::specs::Files::file_number))]
     pub fn number(self) -> u8
         ensures { result ≡ file_number self }
     {

@@ -29,6 +29,7 @@ impl Bus {
     }
 
     // Reads n marks, each as it comes.
+    #[tactic(auto, using(crate::proofs::Rules::rules_bus_bus_read_marks), unfolding(crate::specs::Readings::bus_from))]
     fn read_marks(n: u8, bytes: &[u8]) -> Bus
         requires { n ≤ limits.boards }
         ensures { result ≡ bus_from limits (marks_due n bytes.now) }
@@ -55,6 +56,7 @@ impl Bus {
     }
 
     // Reads n and the marks of the n boards. What follows them is not looked at.
+    #[tactic(auto, using(crate::proofs::Rules::rules_bus_bus_read), unfolding(crate::specs::Readings::bus_from))]
     pub fn read(file: &[u8]) -> Bus
         ensures { result ≡ bus_of limits file.now }
     {

@@ -39,6 +39,7 @@ impl Schedule {
     }
 
     // Reads the section of events, which begins after the marks and has to end with the file.
+    #[tactic(auto, using(crate::proofs::Rules::rules_file_schedule_read_events), unfolding(crate::specs::Readings::schedule_from))]
     fn read_events(bus: Bus, file: &[u8]) -> Schedule
         requires { (bus ≡ bus_of limits file.now) × (bus.answer ≡ Taken) }
         ensures { result ≡ schedule_of limits file.now }
@@ -66,6 +67,7 @@ impl Schedule {
     }
 
     // Reads a whole file.
+    #[tactic(auto, using(crate::proofs::Rules::rules_file_schedule_read), unfolding(crate::specs::Readings::schedule_from))]
     pub fn read(file: &[u8]) -> Schedule
         ensures { result ≡ schedule_of limits file.now }
     {

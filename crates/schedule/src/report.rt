@@ -31,6 +31,7 @@ impl Report {
 }
 
 // The lines of the events.
+#[tactic(auto, using(crate::proofs::Rules::rules_report_event_lines))]
 fn event_lines(out: &mut [u8], count: u16, answers: &[u8]) -> usize
     requires { (count ≤ most_events) × (count ≤ length answers.now) }
     ensures { (result ≤ event_line_bytes * count) × PutAt (event_lines count answers.now) out.old 0 out.new result }
@@ -46,6 +47,7 @@ fn event_lines(out: &mut [u8], count: u16, answers: &[u8]) -> usize
 }
 
 // The lines of the boards.
+#[tactic(auto, using(crate::proofs::Rules::rules_report_board_lines))]
 fn board_lines(out: &mut [u8], at: usize, n: u8, bench: Bench) -> usize
     requires { (n ≤ limits.boards) × (at ≤ event_line_bytes * most_events) }
     ensures { (result ≤ longest_print limits) × PutAt (board_lines limits n bench) out.old at out.new result }
@@ -61,6 +63,7 @@ fn board_lines(out: &mut [u8], at: usize, n: u8, bench: Bench) -> usize
 }
 
 // The lines of the events, and then those of the boards.
+#[tactic(auto, using(crate::proofs::Rules::rules_report_lines))]
 fn lines(out: &mut [u8], count: u16, answers: &[u8], n: u8, bench: Bench) -> usize
     requires { (count ≤ most_events) × (count ≤ length answers.now) × (n ≤ limits.boards) }
     ensures { (result ≤ longest_print limits) × PutAt (event_lines count answers.now ++ board_lines limits n bench) out.old 0 out.new result }
@@ -77,6 +80,7 @@ fn answer_space() -> [u8; Section::MOST_EVENTS as usize]
 }
 
 // The report of a file that was read.
+#[tactic(auto, using(crate::proofs::Rules::rules_report_report_played))]
 fn report_played(file: &[u8], schedule: Schedule, out: &mut [u8]) -> Report
     requires { (schedule ≡ schedule_of limits file.now) × (schedule.answer ≡ Taken) }
     ensures { (result ≡ report_from (printed limits file.now) (length out.old)) × (out.new ≡ buffer_from (printed limits file.now) out.old) × (length (printed limits file.now) ≤ longest_print limits) }
@@ -97,6 +101,7 @@ fn report_played(file: &[u8], schedule: Schedule, out: &mut [u8]) -> Report
 }
 
 // The report of a file that is refused.
+#[tactic(auto, using(crate::proofs::Rules::rules_report_report_refused))]
 fn report_refused(fault: Fault, out: &mut [u8]) -> Report
     ensures { (result ≡ report_from (refused_line fault) (length out.old)) × (out.new ≡ buffer_from (refused_line fault) out.old) × (length (refused_line fault) ≤ longest_print limits) }
 {
@@ -111,6 +116,7 @@ fn report_refused(fault: Fault, out: &mut [u8]) -> Report
 impl Report {
     // Reads a file, plays it, and writes to the start of a buffer what is to be printed of it. The rest of the buffer stays;
     // if it is too short, all of it does. No report is longer than `Report::LONGEST`.
+    #[tactic(auto, using(crate::proofs::Rules::rules_report_report_write))]
     pub fn write(file: &[u8], out: &mut [u8]) -> Report
         ensures { (result ≡ report_from (printed limits file.now) (length out.old)) × (out.new ≡ buffer_from (printed limits file.now) out.old) × (length (printed limits file.now) ≤ longest_print limits) }
     {

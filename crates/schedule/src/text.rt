@@ -20,6 +20,7 @@ pub(crate) fn put(out: &mut [u8], at: usize, byte: u8) -> usize
 }
 
 // A number in decimal.
+#[tactic(auto, using(crate::proofs::Rules::rules_text_number))]
 pub(crate) fn number(out: &mut [u8], at: usize, m: u16) -> usize
     requires { at + length (decimal m) ≤ longest_print limits }
     ensures { PutAt (decimal m) out.old at out.new result }
@@ -32,6 +33,7 @@ pub(crate) fn number(out: &mut [u8], at: usize, m: u16) -> usize
 }
 
 // An event's line.
+#[tactic(auto, using(crate::proofs::Rules::rules_text_event_line), unfolding(crate::specs::Prints::event_line))]
 pub(crate) fn event_line(out: &mut [u8], at: usize, k: u16, answer: u8) -> usize
     requires { at + length (event_line k answer) ≤ longest_print limits }
     ensures { PutAt (event_line k answer) out.old at out.new result }
@@ -43,6 +45,7 @@ pub(crate) fn event_line(out: &mut [u8], at: usize, k: u16, answer: u8) -> usize
 }
 
 // A board's line.
+#[tactic(auto, using(crate::proofs::Rules::rules_text_board_line), unfolding(crate::specs::Prints::board_line))]
 pub(crate) fn board_line(out: &mut [u8], at: usize, k: u8, shown: Shown) -> usize
     requires { at + length (board_line k shown) ≤ longest_print limits }
     ensures { PutAt (board_line k shown) out.old at out.new result }
@@ -60,6 +63,7 @@ pub(crate) fn board_line(out: &mut [u8], at: usize, k: u8, shown: Shown) -> usiz
 }
 
 // A text as it stands.
+#[tactic(auto, using(crate::proofs::Rules::rules_text_word))]
 pub(crate) fn word(out: &mut [u8], at: usize, text: &[u8]) -> usize
     requires { at + length text.now ≤ longest_print limits }
     ensures { PutAt text.now out.old at out.new result }
@@ -74,6 +78,7 @@ pub(crate) fn word(out: &mut [u8], at: usize, text: &[u8]) -> usize
 }
 
 // The line of a refused file.
+#[tactic(auto, using(crate::proofs::Rules::rules_text_refused_line), unfolding(crate::specs::Prints::refused_line))]
 pub(crate) fn refused_line(out: &mut [u8], fault: Fault) -> usize
     ensures { PutAt (refused_line fault) out.old 0 out.new result }
 {

@@ -1,0 +1,15 @@
+use Prim.Native.Nat.{◌-◌, ◌≤◌}
+use mathlib.Core.Path.{◌≡◌}
+use lib.ListN.{length, take}
+use Rattle.delivery.specs.Limits.{limits}
+use Rattle.schedule.specs.Files.{marks_due}
+use Rattle.schedule.specs.Readings.{padded}
+use Rattle.schedule.proofs.SectionLaws.{marks_left}
+use Rattle.schedule.proofs.bus.Bus.read_marks.Given as goal
+
+abbrev pub invariant-loop-k : goal.invariant-loop-k
+invariant-loop-k l =
+    (l.k ≤ l.n) × (l.k ≤ length l.bytes) × (l.marks ≡ padded limits (take l.k l.bytes)) × (marks_due l.n l.bytes ≡ marks_left l.n l.k l.bytes)
+
+abbrev pub decreases-loop-k : goal.decreases-loop-k
+decreases-loop-k l = l.n - l.k
