@@ -3,56 +3,55 @@
 // identifier, and the value or `nothing`.
 #![tactic(auto)]
 
-use libc::STDOUT_FILENO;
 use signer::{Identifier, Log, Signer};
+use std::io;
 
-fn write_number(n: u64) {
-    io::print_decimal(STDOUT_FILENO, n);
-    io::write_all(STDOUT_FILENO, b" ");
+fn write_number(rt: &HostRuntime, n: u64) -> io::Result<()> {
+    print!(rt; "{n} ")
 }
 
-fn ask(s: Signer, id: u8, value: u16) -> Signer {
+fn ask(rt: &HostRuntime, s: Signer, id: u8, value: u16) -> io::Result<Signer> {
     let out = s.sign(Identifier(id), value);
-    write_number(id as u64);
-    write_number(value as u64);
+    write_number(rt, id as u64)?;
+    write_number(rt, value as u64)?;
     if out.signed {
-        io::write_all(STDOUT_FILENO, b"signed\n");
+        print!(rt; "signed\n")?;
     } else {
-        io::write_all(STDOUT_FILENO, b"refused\n");
+        print!(rt; "refused\n")?;
     }
-    out.signer
+    Ok(out.signer)
 }
 
-fn show(s: Signer, id: u8) {
+fn show(rt: &HostRuntime, s: Signer, id: u8) -> io::Result<()> {
     let entry = s.entry(Identifier(id));
-    write_number(id as u64);
+    write_number(rt, id as u64)?;
     if entry == 0 {
-        io::write_all(STDOUT_FILENO, b"nothing\n");
+        print!(rt; "nothing\n")
     } else {
-        io::print_decimal(STDOUT_FILENO, Log::value_of(entry) as u64);
-        io::write_all(STDOUT_FILENO, b"\n");
+        let value = Log::value_of(entry);
+        print!(rt; "{value}\n")
     }
 }
 
-fn main() {
+fn main(rt: HostRuntime) -> io::Result<()> {
     let mut s = Signer::fresh();
     // document 01, letter d
-    s = ask(s, 5, 700);
-    s = ask(s, 3, 701);
-    s = ask(s, 5, 702);
-    s = ask(s, 6, 0);
+    s = ask(&rt, s, 5, 700)?;
+    s = ask(&rt, s, 3, 701)?;
+    s = ask(&rt, s, 5, 702)?;
+    s = ask(&rt, s, 6, 0)?;
     // numbers that are no identifiers, and the highest two
-    s = ask(s, 0, 1);
-    s = ask(s, Identifier::LAST + 1, 2);
-    s = ask(s, 255, 3);
-    s = ask(s, Identifier::LAST - 1, Log::VALUES);
-    s = ask(s, Identifier::LAST, 0);
-    s = ask(s, Identifier::LAST, 4);
-    show(s, 0);
-    show(s, 3);
-    show(s, 5);
-    show(s, 6);
-    show(s, Identifier::LAST - 1);
-    show(s, Identifier::LAST);
-    show(s, Identifier::LAST + 1);
+    s = ask(&rt, s, 0, 1)?;
+    s = ask(&rt, s, Identifier::LAST + 1, 2)?;
+    s = ask(&rt, s, 255, 3)?;
+    s = ask(&rt, s, Identifier::LAST - 1, Log::VALUES)?;
+    s = ask(&rt, s, Identifier::LAST, 0)?;
+    s = ask(&rt, s, Identifier::LAST, 4)?;
+    show(&rt, s, 0)?;
+    show(&rt, s, 3)?;
+    show(&rt, s, 5)?;
+    show(&rt, s, 6)?;
+    show(&rt, s, Identifier::LAST - 1)?;
+    show(&rt, s, Identifier::LAST)?;
+    show(&rt, s, Identifier::LAST + 1)
 }
