@@ -3,8 +3,8 @@
 #![tactic(auto)]
 
 use delivery::{Delivered, Phase, Round};
-use libc::STDOUT_FILENO;
 use signer::Identifier;
+use std::io;
 use vote::{Board, Position, Said, Stage, Statement, Status};
 
 // The runs. Each has one board.
@@ -141,84 +141,86 @@ struct Seat {
     board: Board,
 }
 
-fn write(text: &[u8]) {
-    io::write_all(STDOUT_FILENO, text);
+fn write(rt: &HostRuntime, text: &str) -> io::Result<()> {
+    print!(rt; "{text}")
 }
 
-fn write_number(text: &[u8], n: u64) {
-    write(text);
-    write(b" ");
-    io::print_decimal(STDOUT_FILENO, n);
+fn write_number(rt: &HostRuntime, text: &str, n: u64) -> io::Result<()> {
+    print!(rt; "{text} {n}")
 }
 
-fn write_value(text: &[u8], round: u8, value: u16) {
-    write_number(text, round as u64);
-    write_number(b" with", value as u64);
+fn write_value(rt: &HostRuntime, text: &str, round: u8, value: u16) -> io::Result<()> {
+    write_number(rt, text, round as u64)?;
+    write_number(rt, " with", value as u64)
 }
 
-fn write_position(letter: &[u8], position: Position) {
-    write_number(letter, position.round.0 as u64);
-    write_number(b"", position.estimate as u64);
+fn write_position(rt: &HostRuntime, letter: &str, position: Position) -> io::Result<()> {
+    write_number(rt, letter, position.round.0 as u64)?;
+    write_number(rt, "", position.estimate as u64)?;
     let stage = position.stage;
     match stage {
-        Stage::Open => write(b" A\n"),
-        Stage::Vote => write(b" B\n"),
-        Stage::Count => write(b" C\n"),
+        Stage::Open => write(rt, " A\n"),
+        Stage::Vote => write(rt, " B\n"),
+        Stage::Count => write(rt, " C\n"),
     }
 }
 
 // How a board stands, at the end of a line.
-fn write_standing(board: Board) {
+fn write_standing(rt: &HostRuntime, board: Board) -> io::Result<()> {
     let status = board.status;
     match status {
-        Status::Idle => write(b"; N 0 0\n"),
-        Status::Voting => write_position(b"; W", board.position),
-        Status::Spent => write_position(b"; X", board.position),
+        Status::Idle => write(rt, "; N 0 0\n"),
+        Status::Voting => write_position(rt, "; W", board.position),
+        Status::Spent => write_position(rt, "; X", board.position),
         Status::Decided(d) => {
-            write_number(b"; D", d.round.0 as u64);
-            write_number(b"", d.value as u64);
-            write(b"\n");
+            write_number(rt, "; D", d.round.0 as u64)?;
+            write_number(rt, "", d.value as u64)?;
+            write(rt, "\n")
         }
     }
 }
 
 // What a statement's identifier stands for in a round.
-fn write_phase(id: Identifier, round: Round) {
+fn write_phase(rt: &HostRuntime, id: Identifier, round: Round) -> io::Result<()> {
     if !round.in_range() {
-        write(b" (none)");
+        write(rt, " (none)")
     } else if id.0 == round.identifier(Phase::Opening).0 {
-        write(b" (opening)");
+        write(rt, " (opening)")
     } else {
-        write(b" (ballot)");
+        write(rt, " (ballot)")
     }
 }
 
 // What was signed in a turn of this round; the given text where it was nothing.
-fn write_signed(signed: Said, round: Round, nothing: &[u8]) {
+fn write_signed(rt: &HostRuntime, signed: Said, round: Round, nothing: &str) -> io::Result<()> {
     match signed {
-        Said::Nothing => write(nothing),
+        Said::Nothing => write(rt, nothing),
         Said::One(s) => {
-            write_number(b", signs", s.id.0 as u64);
-            write_phase(s.id, round);
-            write_number(b" with", s.value as u64);
+            write_number(rt, ", signs", s.id.0 as u64)?;
+            write_phase(rt, s.id, round)?;
+            write_number(rt, " with", s.value as u64)
         }
     }
 }
 
-fn write_heading(run: Run) {
+fn write_heading(rt: &HostRuntime, run: Run) -> io::Result<()> {
     match run {
-        Run::OwnTurn => write(b"board 2 of 3 decides by its own turn"),
-        Run::Incident => write(b"the incident, at board 3 of 3"),
-        Run::LastRound => write(b"board 3 of 3, spent in the last round"),
-        Run::BlankOpening => write(b"board 2 of 3: an opening with the blank counts as delivered"),
-        Run::Suspected => write(
-            b"board 2 of 3: an accepted opening gets its value though its coordinator is suspected",
+        Run::OwnTurn => write(rt, "board 2 of 3 decides by its own turn"),
+        Run::Incident => write(rt, "the incident, at board 3 of 3"),
+        Run::LastRound => write(rt, "board 3 of 3, spent in the last round"),
+        Run::BlankOpening => write(
+            rt,
+            "board 2 of 3: an opening with the blank counts as delivered",
         ),
-        Run::Alone => write(b"n = 1"),
-        Run::NoBoards => write(b"numbers that no bus has: n = 0"),
-        Run::ManyBoards => write(b"numbers that no bus has: n = 200"),
-        Run::NoRound => write(b"numbers that no bus has: round 250, n = 3"),
-        Run::Neither => write(b"numbers that no bus has: round 250, n = 0"),
+        Run::Suspected => write(
+            rt,
+            "board 2 of 3: an accepted opening gets its value though its coordinator is suspected",
+        ),
+        Run::Alone => write(rt, "n = 1"),
+        Run::NoBoards => write(rt, "numbers that no bus has: n = 0"),
+        Run::ManyBoards => write(rt, "numbers that no bus has: n = 200"),
+        Run::NoRound => write(rt, "numbers that no bus has: round 250, n = 3"),
+        Run::Neither => write(rt, "numbers that no bus has: round 250, n = 0"),
     }
 }
 
@@ -247,23 +249,32 @@ fn first_board(run: Run) -> Board {
     }
 }
 
-fn write_statement(speaker: u8, text: &[u8], round: u8, value: u16) {
-    write_number(b" delivery: board", speaker as u64);
-    write_value(text, round, value);
+fn write_statement(
+    rt: &HostRuntime,
+    speaker: u8,
+    text: &str,
+    round: u8,
+    value: u16,
+) -> io::Result<()> {
+    write_number(rt, " delivery: board", speaker as u64)?;
+    write_value(rt, text, round, value)
 }
 
-fn write_asked(step: Step) {
+fn write_asked(rt: &HostRuntime, step: Step) -> io::Result<()> {
     match step {
-        Step::Run(run, _, _) => write_heading(run),
-        Step::Propose(value) => write_number(b" propose", value as u64),
-        Step::Turn => write(b" turn:"),
-        Step::Opening(k, round, value) => write_statement(k, b" opens round", round, value),
-        Step::Ballot(k, round, value) => write_statement(k, b" votes in round", round, value),
-        Step::Suspect(k) => write_number(b" suspect board", k as u64),
-        Step::Trust(k) => write_number(b" trust board", k as u64),
-        Step::Announce(round, value) => write_value(b" announcement of round", round, value),
-        Step::Count(round, value) => write_value(b" accepted ballots of round", round, value),
-        Step::BlankRounds => write(b" in every round a blank ballot of board 1 and three turns"),
+        Step::Run(run, _, _) => write_heading(rt, run),
+        Step::Propose(value) => write_number(rt, " propose", value as u64),
+        Step::Turn => write(rt, " turn:"),
+        Step::Opening(k, round, value) => write_statement(rt, k, " opens round", round, value),
+        Step::Ballot(k, round, value) => write_statement(rt, k, " votes in round", round, value),
+        Step::Suspect(k) => write_number(rt, " suspect board", k as u64),
+        Step::Trust(k) => write_number(rt, " trust board", k as u64),
+        Step::Announce(round, value) => write_value(rt, " announcement of round", round, value),
+        Step::Count(round, value) => write_value(rt, " accepted ballots of round", round, value),
+        Step::BlankRounds => write(
+            rt,
+            " in every round a blank ballot of board 1 and three turns",
+        ),
     }
 }
 
@@ -273,13 +284,13 @@ impl Seat {
         self
     }
 
-    fn turn(self, nothing: &[u8]) -> Seat {
+    fn turn(self, rt: &HostRuntime, nothing: &str) -> io::Result<Seat> {
         let turn = self.board.turn(self.n, self.me);
         let answer = turn.answer;
-        write_number(b"", answer.number() as u64);
+        write_number(rt, "", answer.number() as u64)?;
         let signed = turn.signed;
-        write_signed(signed, self.board.position.round, nothing);
-        self.with(turn.board)
+        write_signed(rt, signed, self.board.position.round, nothing)?;
+        Ok(self.with(turn.board))
     }
 
     fn hear(self, speaker: u8, round: u8, phase: Phase, value: u16) -> Seat {
@@ -288,62 +299,66 @@ impl Seat {
     }
 
     // A round in which board 1 votes blank: three turns, on a line below that of the round before.
-    fn blank_round(self, r: u8) -> Seat {
-        write_standing(self.board);
-        write_number(b"   round", r as u64);
-        write(b":");
-        let first = self.hear(1, r, Phase::Ballot, 0).turn(b"");
-        write(b" /");
-        let second = first.turn(b"");
-        write(b" /");
-        second.turn(b"")
+    fn blank_round(self, rt: &HostRuntime, r: u8) -> io::Result<Seat> {
+        write_standing(rt, self.board)?;
+        write_number(rt, "   round", r as u64)?;
+        write(rt, ":")?;
+        let first = self.hear(1, r, Phase::Ballot, 0).turn(rt, "")?;
+        write(rt, " /")?;
+        let second = first.turn(rt, "")?;
+        write(rt, " /")?;
+        second.turn(rt, "")
     }
 
-    fn blank_rounds(self) -> Seat {
+    fn blank_rounds(self, rt: &HostRuntime) -> io::Result<Seat> {
         let mut seat = self;
         let mut r = 0u8;
         while r < Round::LAST {
             r += 1;
-            seat = seat.blank_round(r);
+            seat = seat.blank_round(rt, r)?;
         }
-        seat
+        Ok(seat)
     }
 
-    fn take(self, step: Step) -> Seat {
+    fn take(self, rt: &HostRuntime, step: Step) -> io::Result<Seat> {
         let board = self.board;
         match step {
             Step::Run(run, n, me) => {
                 let board = first_board(run);
-                Seat { n, me, board }
+                Ok(Seat { n, me, board })
             }
-            Step::Propose(value) => self.with(board.propose(value)),
-            Step::Turn => self.turn(b", signs nothing"),
-            Step::Opening(k, round, value) => self.hear(k, round, Phase::Opening, value),
-            Step::Ballot(k, round, value) => self.hear(k, round, Phase::Ballot, value),
-            Step::Suspect(k) => self.with(board.suspect(k)),
-            Step::Trust(k) => self.with(board.trust(k)),
-            Step::Announce(round, value) => self.with(board.announce(self.n, Round(round), value)),
+            Step::Propose(value) => Ok(self.with(board.propose(value))),
+            Step::Turn => self.turn(rt, ", signs nothing"),
+            Step::Opening(k, round, value) => Ok(self.hear(k, round, Phase::Opening, value)),
+            Step::Ballot(k, round, value) => Ok(self.hear(k, round, Phase::Ballot, value)),
+            Step::Suspect(k) => Ok(self.with(board.suspect(k))),
+            Step::Trust(k) => Ok(self.with(board.trust(k))),
+            Step::Announce(round, value) => Ok(self.with(board.announce(
+                self.n,
+                Round(round),
+                value,
+            ))),
             Step::Count(round, value) => {
-                write_number(b":", board.tally(self.n, Round(round), value) as u64);
-                self
+                write_number(rt, ":", board.tally(self.n, Round(round), value) as u64)?;
+                Ok(self)
             }
-            Step::BlankRounds => self.blank_rounds(),
+            Step::BlankRounds => self.blank_rounds(rt),
         }
     }
 
     // One line of the output; that of a heading has no number.
-    fn line(self, number: u64, step: Step) -> Seat {
+    fn line(self, rt: &HostRuntime, number: u64, step: Step) -> io::Result<Seat> {
         if number > 0 {
-            write_number(b"", number);
+            write_number(rt, "", number)?;
         }
-        write_asked(step);
-        let after = self.take(step);
-        write_standing(after.board);
-        after
+        write_asked(rt, step)?;
+        let after = self.take(rt, step)?;
+        write_standing(rt, after.board)?;
+        Ok(after)
     }
 }
 
-fn play(steps: [Step; COUNT]) {
+fn play(rt: &HostRuntime, steps: [Step; COUNT]) -> io::Result<()> {
     let board = Board::fresh();
     let mut seat = Seat { n: 0, me: 0, board };
     let mut number = 0u64;
@@ -354,12 +369,16 @@ fn play(steps: [Step; COUNT]) {
             Step::Run(_, _, _) => number = 0,
             _ => number += 1,
         }
-        seat = seat.line(number, step);
+        seat = seat.line(rt, number, step)?;
         i += 1;
     }
+    Ok(())
 }
 
-fn main() {
-    write(b"N not started; W voting, X spent: round, estimate, stage; D decided: round, value\n");
-    play(STEPS);
+fn main(rt: HostRuntime) -> io::Result<()> {
+    write(
+        &rt,
+        "N not started; W voting, X spent: round, estimate, stage; D decided: round, value\n",
+    )?;
+    play(&rt, STEPS)
 }
