@@ -11,8 +11,8 @@ ghost use Rattle.bench.specs.Runs.{after};
 
 use bench::{Answer, Bench, Ending, Event};
 use delivery::set;
-use libc::STDOUT_FILENO;
 use signer::Identifier;
+use std::io;
 
 // The marks of the boards: which of them are faulty.
 const NONE: [u8; Bench::BOARDS as usize] = [0, 0, 0, 0, 0, 0, 0];
@@ -163,53 +163,53 @@ const ECHO: [[u8; Event::BYTES]; 4] = [
 // The most events of a schedule here.
 const EVENTS: usize = 23;
 
-fn write(text: &[u8]) {
-    io::write_all(STDOUT_FILENO, text);
+fn write(rt: &HostRuntime, text: &str) -> io::Result<()> {
+    print!(rt; "{text}")
 }
 
-fn write_number(text: &[u8], n: u64) {
-    write(text);
-    write(b" ");
-    io::print_decimal(STDOUT_FILENO, n);
+fn write_number(rt: &HostRuntime, text: &str, n: u64) -> io::Result<()> {
+    print!(rt; "{text} {n}")
 }
 
 // A number that ends its line.
-fn write_last(text: &[u8], n: u64) {
-    write_number(text, n);
-    write(b"\n");
+fn write_last(rt: &HostRuntime, text: &str, n: u64) -> io::Result<()> {
+    write_number(rt, text, n)?;
+    write(rt, "\n")
 }
 
 // The answer to an event, with the event's number.
-fn write_answer(number: u64, answer: u8) {
-    io::print_decimal(STDOUT_FILENO, number);
-    write_last(b"", answer as u64);
+fn write_answer(rt: &HostRuntime, number: u64, answer: u8) -> io::Result<()> {
+    print!(rt; "{number}")?;
+    write_last(rt, "", answer as u64)
 }
 
-fn write_answers(answers: &[u8]) {
+fn write_answers(rt: &HostRuntime, answers: &[u8]) -> io::Result<()> {
     let mut k = 0usize;
     while k < answers.len() {
         let answer = answers[k];
         k += 1;
-        write_answer(k as u64, answer);
+        write_answer(rt, k as u64, answer)?;
     }
+    Ok(())
 }
 
 // How board k stands.
-fn write_board(bench: Bench, k: u8) {
-    io::print_decimal(STDOUT_FILENO, k as u64);
+fn write_board(rt: &HostRuntime, bench: Bench, k: u8) -> io::Result<()> {
+    print!(rt; "{k}")?;
     let shown = bench.shown(k);
-    let letter = shown.letter;
-    let text = [b' ', letter.byte()];
-    write_number(&text, shown.round.0 as u64);
-    write_last(b"", shown.value as u64);
+    let letter = shown.letter.byte() as char;
+    print!(rt; " {letter}")?;
+    write_number(rt, "", shown.round.0 as u64)?;
+    write_last(rt, "", shown.value as u64)
 }
 
-fn write_boards(bench: Bench) {
+fn write_boards(rt: &HostRuntime, bench: Bench) -> io::Result<()> {
     let mut k = 0u8;
     while k < bench.n {
         k += 1;
-        write_board(bench, k);
+        write_board(rt, bench, k)?;
     }
+    Ok(())
 }
 
 // How many copies of a speaker's statements are owed.
@@ -236,26 +236,28 @@ fn owed(bench: Bench) -> u64 {
 }
 
 // Plays a list of events into a fresh bench, with so much room for the answers, and writes what came of it.
+#[tactic(auto, using(crate::proofs::Rules::rules_play))]
 fn play(
-    title: &[u8],
+    rt: &HostRuntime,
+    title: &str,
     n: u8,
     marks: [u8; Bench::BOARDS as usize],
     events: &[u8],
     answers: &mut [u8],
-) {
-    write(title);
+) -> io::Result<()> {
+    write(rt, title)?;
     let played = Bench::play(n, marks, events, answers);
     let answer = played.answer;
-    write_last(b"fresh", answer.number() as u64);
+    write_last(rt, "fresh", answer.number() as u64)?;
     let ending = played.ending;
     match ending {
-        Ending::Played => write_answers(&answers[..events.len() / Event::BYTES]),
-        Ending::Ragged => write(b"not played: ragged\n"),
-        Ending::Short => write(b"not played: short\n"),
+        Ending::Played => write_answers(rt, &answers[..events.len() / Event::BYTES])?,
+        Ending::Ragged => write(rt, "not played: ragged\n")?,
+        Ending::Short => write(rt, "not played: short\n")?,
     }
     let bench = played.bench;
-    write_boards(bench);
-    write_last(b"owed", owed(bench));
+    write_boards(rt, bench)?;
+    write_last(rt, "owed", owed(bench))
 }
 
 // The bytes of a schedule, one event after another; after them, zeros.
@@ -273,88 +275,101 @@ fn bytes_of(schedule: &[[u8; Event::BYTES]]) -> [u8; EVENTS * Event::BYTES] {
 
 // Plays so many bytes of a schedule, with room for so many answers; nothing if it is more than the longest here needs.
 fn play_part(
-    title: &[u8],
+    rt: &HostRuntime,
+    title: &str,
     n: u8,
     marks: [u8; Bench::BOARDS as usize],
     schedule: &[[u8; Event::BYTES]],
     bytes: usize,
     room: usize,
-) {
+) -> io::Result<()> {
     let events = bytes_of(schedule);
     let mut answers = [0u8; EVENTS];
     if bytes > events.len() {
-        return;
+        return Ok(());
     }
     if room > answers.len() {
-        return;
+        return Ok(());
     }
-    play(title, n, marks, &events[..bytes], &mut answers[..room]);
+    play(rt, title, n, marks, &events[..bytes], &mut answers[..room])
 }
 
 // Plays a schedule, with room enough for its answers.
 fn play_schedule(
-    title: &[u8],
+    rt: &HostRuntime,
+    title: &str,
     n: u8,
     marks: [u8; Bench::BOARDS as usize],
     schedule: &[[u8; Event::BYTES]],
-) {
+) -> io::Result<()> {
     let bytes = schedule.len() * Event::BYTES;
-    play_part(title, n, marks, schedule, bytes, EVENTS);
+    play_part(rt, title, n, marks, schedule, bytes, EVENTS)
 }
 
 // Whole votes.
-fn votes() {
+fn votes(rt: &HostRuntime) -> io::Result<()> {
     let alone = ALONE;
-    play_schedule(b"one board\n", 1, NONE, &alone);
+    play_schedule(rt, "one board\n", 1, NONE, &alone)?;
     let incident = INCIDENT;
     play_schedule(
-        b"the incident, of three boards of which the second is faulty: its ballot of round 1 is on the way\n",
+        rt,
+        "the incident, of three boards of which the second is faulty: its ballot of round 1 is on the way\n",
         3,
         SECOND,
         &incident[..19],
-    );
-    play_schedule(b"the incident to its end\n", 3, SECOND, &incident);
+    )?;
+    play_schedule(rt, "the incident to its end\n", 3, SECOND, &incident)?;
     let every = EVERY_ANSWER;
     play_schedule(
-        b"every answer: of three boards the third is faulty\n",
+        rt,
+        "every answer: of three boards the third is faulty\n",
         3,
         THIRD,
         &every,
-    );
+    )?;
     let two = TWO_FAULTY;
-    play_schedule(b"two faulty boards of three\n", 3, SECOND_AND_THIRD, &two);
+    play_schedule(
+        rt,
+        "two faulty boards of three\n",
+        3,
+        SECOND_AND_THIRD,
+        &two,
+    )
 }
 
 // Calls for a fresh bench: three that are refused, and get the bench of one sound board, and one that is not.
-fn calls() {
+fn calls(rt: &HostRuntime) -> io::Result<()> {
     let alone = ALONE;
-    play_schedule(b"no boards\n", 0, NONE, &alone);
-    play_schedule(b"nine boards\n", 9, NONE, &alone);
+    play_schedule(rt, "no boards\n", 0, NONE, &alone)?;
+    play_schedule(rt, "nine boards\n", 9, NONE, &alone)?;
     play_schedule(
-        b"the second of two boards has the mark 2\n",
+        rt,
+        "the second of two boards has the mark 2\n",
         2,
         NO_MARK,
         &alone,
-    );
+    )?;
     play_schedule(
-        b"one board, and after its mark there are some that are none\n",
+        rt,
+        "one board, and after its mark there are some that are none\n",
         1,
         UNREAD,
         &alone,
-    );
+    )
 }
 
 // The copies that are owed, after two, three and four events.
-fn copies() {
+fn copies(rt: &HostRuntime) -> io::Result<()> {
     let echo = ECHO;
     play_schedule(
-        b"three sound boards: board 1 opens round 1\n",
+        rt,
+        "three sound boards: board 1 opens round 1\n",
         3,
         NONE,
         &echo[..2],
-    );
-    play_schedule(b"and board 2 hears it\n", 3, NONE, &echo[..3]);
-    play_schedule(b"and board 3 hears it\n", 3, NONE, &echo);
+    )?;
+    play_schedule(rt, "and board 2 hears it\n", 3, NONE, &echo[..3])?;
+    play_schedule(rt, "and board 3 hears it\n", 3, NONE, &echo)
 }
 
 // Board 1 proposes 700.
@@ -381,39 +396,42 @@ fn turn() -> Event {
 
 // Board 1 opens round 1 with 700: what it has signed so, and what boards 1 and 2 have delivered of it. A log's entry is
 // one more than the value, and 0 where there is none.
-fn opening() {
+fn opening(rt: &HostRuntime) -> io::Result<()> {
     let bench = Bench::fresh(3, NONE).bench;
     let proposed = bench.event(proposal()).bench;
     let opened = proposed.event(turn()).bench;
     let id = Identifier(1);
-    write(b"board 1 opens round 1 with 700\n");
-    write_last(b"signed", opened.signed(1, id) as u64);
-    write_last(b"delivered by 1", opened.delivered(1, 1, id) as u64);
-    write_last(b"delivered by 2", opened.delivered(2, 1, id) as u64);
+    write(rt, "board 1 opens round 1 with 700\n")?;
+    write_last(rt, "signed", opened.signed(1, id) as u64)?;
+    write_last(rt, "delivered by 1", opened.delivered(1, 1, id) as u64)?;
+    write_last(rt, "delivered by 2", opened.delivered(2, 1, id) as u64)
 }
 
 // Lists that cannot be played: one event and a byte, and four events with room for three answers.
-fn not_played() {
+fn not_played(rt: &HostRuntime) -> io::Result<()> {
     let alone = ALONE;
     play_part(
-        b"an event and a byte\n",
+        rt,
+        "an event and a byte\n",
         1,
         NONE,
         &alone,
         Event::BYTES + 1,
         EVENTS,
-    );
+    )?;
     play_part(
-        b"four events, and room for three answers\n",
+        rt,
+        "four events, and room for three answers\n",
         1,
         NONE,
         &alone,
         4 * Event::BYTES,
         3,
-    );
+    )
 }
 
 // What an event is answered on a fresh bench, after another one and after itself so many times.
+#[tactic(auto, using(crate::proofs::Rules::rules_answer_after))]
 fn answer_after(
     n: u8,
     marks: [u8; Bench::BOARDS as usize],
@@ -434,19 +452,19 @@ fn answer_after(
 }
 
 // A board alone proposes 700. With its third turn it decides, and a fourth is refused.
-fn later_turns() {
-    write(b"one board: its third turn, and its fourth\n");
+fn later_turns(rt: &HostRuntime) -> io::Result<()> {
+    write(rt, "one board: its third turn, and its fourth\n")?;
     let third = answer_after(1, NONE, proposal(), turn(), 2);
-    write_answer(4, third.number());
+    write_answer(rt, 4, third.number())?;
     let fourth = answer_after(1, NONE, proposal(), turn(), 3);
-    write_answer(5, fourth.number());
+    write_answer(rt, 5, fourth.number())
 }
 
-fn main() {
-    votes();
-    calls();
-    copies();
-    opening();
-    not_played();
-    later_turns();
+fn main(rt: HostRuntime) -> io::Result<()> {
+    votes(&rt)?;
+    calls(&rt)?;
+    copies(&rt)?;
+    opening(&rt)?;
+    not_played(&rt)?;
+    later_turns(&rt)
 }

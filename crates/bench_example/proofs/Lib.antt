@@ -1,0 +1,2 @@
+mod AgainLaws
+mod Rules
