@@ -1,3 +1,4 @@
 -- Laws of rows (RowLaws) and of traces (TraceLaws).
 pub mod RowLaws
 pub mod TraceLaws
+pub mod Rules

@@ -25,6 +25,7 @@ pub(crate) const WORDS: usize = FRONT_WORDS
     + Bench::BOARDS as usize * TABLE_WORDS
     + TABLE_WORDS;
 
+#[tactic(auto, unfolding(crate::specs::Rows::status_number))]
 fn status_number(status: Status) -> u32
     ensures { result ≡ status_number status }
 {
@@ -36,6 +37,7 @@ fn status_number(status: Status) -> u32
     }
 }
 
+#[tactic(auto, unfolding(crate::specs::Rows::stage_number))]
 fn stage_number(stage: Stage) -> u32
     ensures { result ≡ stage_number stage }
 {
@@ -47,6 +49,7 @@ fn stage_number(stage: Stage) -> u32
 }
 
 // What a board decided; 0 in round 0 if it has not.
+#[tactic(auto, unfolding(crate::specs::Rows::decision))]
 fn decision(status: Status) -> Decision
     ensures { result ≡ decision status }
 {
@@ -78,6 +81,7 @@ fn put_word(out: &mut [u32], at: usize, word: u32) -> usize
 }
 
 // The answer, n and the sound boards.
+#[tactic(auto, using(crate::proofs::Rules::rules_row_put_front))]
 fn put_front(out: &mut [u32], at: usize, answer: u8, n: u8, sound: u16) -> usize
     requires { at + front_size ≤ length out.old }
     ensures { PutAt (answer ∷ n ∷ sound ∷ []) out.old at out.new result }
@@ -88,6 +92,7 @@ fn put_front(out: &mut [u32], at: usize, answer: u8, n: u8, sound: u16) -> usize
 }
 
 // A status, and what was decided.
+#[tactic(auto, using(crate::proofs::Rules::rules_row_put_status), unfolding(crate::specs::Rows::status_words))]
 fn put_status(out: &mut [u32], at: usize, status: Status) -> usize
     requires { at + status_size ≤ length out.old }
     ensures { PutAt (status_words status) out.old at out.new result }
@@ -99,6 +104,7 @@ fn put_status(out: &mut [u32], at: usize, status: Status) -> usize
 }
 
 // Where a board stands in the vote.
+#[tactic(auto, using(crate::proofs::Rules::rules_row_put_position), unfolding(crate::specs::Rows::position_words))]
 fn put_position(out: &mut [u32], at: usize, position: Position) -> usize
     requires { at + position_size ≤ length out.old }
     ensures { PutAt (position_words position) out.old at out.new result }
@@ -111,6 +117,7 @@ fn put_position(out: &mut [u32], at: usize, position: Position) -> usize
 }
 
 // A board, and the highest identifier that its signer signed.
+#[tactic(auto, using(crate::proofs::Rules::rules_row_put_board), unfolding(crate::specs::Rows::board_words))]
 fn put_board(out: &mut [u32], at: usize, board: Board, last: Identifier) -> usize
     requires { at + board_size ≤ length out.old }
     ensures { PutAt (board_words board last.0) out.old at out.new result }
@@ -123,6 +130,7 @@ fn put_board(out: &mut [u32], at: usize, board: Board, last: Identifier) -> usiz
 }
 
 // Every board.
+#[tactic(auto, using(crate::proofs::Rules::rules_row_put_boards))]
 fn put_boards(out: &mut [u32], at: usize, bench: Bench) -> usize
     requires { at + limits.boards * board_size ≤ length out.old }
     ensures { PutAt (parts_to limits.boards (λ k. board_words (board_at limits bench k) (signer_at limits bench k).last.0)) out.old at out.new result }
@@ -138,6 +146,7 @@ fn put_boards(out: &mut [u32], at: usize, bench: Bench) -> usize
 }
 
 // A log's entries.
+#[tactic(auto, using(crate::proofs::Rules::rules_row_put_log))]
 fn put_log(out: &mut [u32], at: usize, log: Log) -> usize
     requires { at + limits.identifiers ≤ length out.old }
     ensures { PutAt (words_to limits.identifiers (entry_at log)) out.old at out.new result }
@@ -153,6 +162,7 @@ fn put_log(out: &mut [u32], at: usize, log: Log) -> usize
 }
 
 // What each board's signer signed.
+#[tactic(auto, using(crate::proofs::Rules::rules_row_put_signed), unfolding(crate::specs::Rows::table_words))]
 fn put_signed(out: &mut [u32], at: usize, bench: Bench) -> usize
     requires { at + table_size limits ≤ length out.old }
     ensures { PutAt (table_words limits (signed_by limits bench)) out.old at out.new result }
@@ -168,6 +178,7 @@ fn put_signed(out: &mut [u32], at: usize, bench: Bench) -> usize
 }
 
 // What one board delivered of a speaker.
+#[tactic(auto, using(crate::proofs::Rules::rules_row_put_speaker))]
 fn put_speaker(out: &mut [u32], at: usize, entries: &[u32; store::PLACES], speaker: u8) -> usize
     requires { at + limits.identifiers ≤ length out.old }
     ensures { PutAt (words_to limits.identifiers (heard_in limits entries.now speaker)) out.old at out.new result }
@@ -182,6 +193,7 @@ fn put_speaker(out: &mut [u32], at: usize, entries: &[u32; store::PLACES], speak
 }
 
 // What one board delivered.
+#[tactic(auto, using(crate::proofs::Rules::rules_row_put_store), unfolding(crate::specs::Rows::table_words))]
 fn put_store(out: &mut [u32], at: usize, delivered: Delivered) -> usize
     requires { at + table_size limits ≤ length out.old }
     ensures { PutAt (table_words limits (heard limits delivered)) out.old at out.new result }
@@ -197,6 +209,7 @@ fn put_store(out: &mut [u32], at: usize, delivered: Delivered) -> usize
 }
 
 // What each board delivered.
+#[tactic(auto, using(crate::proofs::Rules::rules_row_put_delivered))]
 fn put_delivered(out: &mut [u32], at: usize, bench: Bench) -> usize
     requires { at + limits.boards * table_size limits ≤ length out.old }
     ensures { PutAt (parts_to limits.boards (λ k. table_words limits (heard_by limits bench k))) out.old at out.new result }
@@ -212,6 +225,7 @@ fn put_delivered(out: &mut [u32], at: usize, bench: Bench) -> usize
 }
 
 // The receivers of copies of one speaker's statements.
+#[tactic(auto, using(crate::proofs::Rules::rules_row_put_copies))]
 fn put_copies(out: &mut [u32], at: usize, copies: Copies) -> usize
     requires { at + limits.identifiers ≤ length out.old }
     ensures { PutAt (words_to limits.identifiers (receivers_at copies)) out.old at out.new result }
@@ -227,6 +241,7 @@ fn put_copies(out: &mut [u32], at: usize, copies: Copies) -> usize
 }
 
 // The copies that are owed.
+#[tactic(auto, using(crate::proofs::Rules::rules_row_put_owed), unfolding(crate::specs::Rows::table_words))]
 fn put_owed(out: &mut [u32], at: usize, owed: Owed) -> usize
     requires { at + table_size limits ≤ length out.old }
     ensures { PutAt (table_words limits (receivers limits owed)) out.old at out.new result }
@@ -241,6 +256,7 @@ fn put_owed(out: &mut [u32], at: usize, owed: Owed) -> usize
 }
 
 // A row.
+#[tactic(auto, using(crate::proofs::Rules::rules_row_put), unfolding(crate::specs::Rows::row))]
 pub(crate) fn put(out: &mut [u32], at: usize, answer: u8, bench: Bench) -> usize
     requires { at + row_size limits ≤ length out.old }
     ensures { PutAt (row limits answer bench) out.old at out.new result }

@@ -13,6 +13,7 @@ use bench::{Bench, Event};
 use schedule::{FileAnswer, Schedule};
 
 // Plays so many events, and puts a row for each.
+#[tactic(auto, using(crate::proofs::Rules::rules_trace_rows))]
 fn rows(out: &mut [u32], at: usize, bench: Bench, count: usize, events: &[u8]) -> usize
     requires { (event_bytes * count ≤ length events.now) × (at + row_size limits * count ≤ length out.old) }
     ensures { PutAt (rows_of limits bench (events_in count events.now)) out.old at out.new result }
@@ -34,6 +35,7 @@ fn rows(out: &mut [u32], at: usize, bench: Bench, count: usize, events: &[u8]) -
 }
 
 // The trace of a file that was read.
+#[tactic(auto, using(crate::proofs::Rules::rules_trace_write_played))]
 fn write_played(file: &[u8], schedule: Schedule, out: &mut [u32]) -> usize
     requires { (schedule ≡ schedule_of limits file.now) × (schedule.answer ≡ Taken) }
     ensures { (result ≡ length (traced limits file.now)) × (out.new ≡ buffer_from (traced limits file.now) out.old) }
@@ -53,6 +55,7 @@ fn write_played(file: &[u8], schedule: Schedule, out: &mut [u32]) -> usize
 }
 
 // Writes the trace of a file to the start of a buffer, if there is room for it.
+#[tactic(auto, using(crate::proofs::Rules::rules_trace_write))]
 pub(crate) fn write(file: &[u8], out: &mut [u32]) -> usize
     ensures { (result ≡ length (traced limits file.now)) × (out.new ≡ buffer_from (traced limits file.now) out.old) }
 {

@@ -1,0 +1,20 @@
+-- `row::put_boards` meets its contract. The loop's invariant: the first k boards are put. Assumes nothing.
+use native.Mathlib.Omega.{arith}
+use Rattle.delivery.specs.Limits.{limits}
+use Rattle.bench.specs.Benches.{board_at, signer_at}
+use Rattle.schedule.proofs.PrintLaws.{parts_none, parts_next, length-parts}
+use Rattle.fenderacai.specs.Rows.{board_size}
+use Rattle.fenderacai.proofs.RowLaws.{length-board, room-left}
+use Rattle.fenderacai.proofs.row.put_boards.Goals as goal
+
+pub loop-k-init : goal.loop-k-init
+loop-k-init c = (omega arith, parts_none _)
+
+pub put_board-next-requires : goal.put_board-next-requires
+put_board-next-requires c =
+    let a = c.args.bench in
+    room-left _ c.loop-k.invariant.1 (length-parts board_size c.loop-k.k _ (λ j. length-board (board_at limits a j) (signer_at limits a j).last.0)) (omega (arith, c.requires))
+
+pub loop-k-preserved : goal.loop-k-preserved
+loop-k-preserved c =
+    (omega arith, parts_next _ c.loop-k.k c.loop-k.invariant.1 (rw (c.signer-signer.ensures, c.board.ensures) at c.put_board-next.ensures))

@@ -1,0 +1,13 @@
+use Prim.Native.Nat.{◌-◌, ◌≤◌}
+use Rattle.delivery.specs.Limits.{limits}
+use Rattle.delivery.specs.Delivered.{heard_in}
+use Rattle.schedule.specs.Prints.{PutAt}
+use Rattle.fenderacai.specs.Rows.{words_to}
+use Rattle.fenderacai.proofs.row.put_speaker.Given as goal
+
+abbrev pub invariant-loop-i : goal.invariant-loop-i
+invariant-loop-i l =
+    (l.i ≤ limits.identifiers) × PutAt (words_to l.i (heard_in limits l.entries l.speaker)) l.initial.out l.at l.out l.next
+
+abbrev pub decreases-loop-i : goal.decreases-loop-i
+decreases-loop-i l = limits.identifiers - l.i
