@@ -12,7 +12,7 @@ fn main() {
     println!("cargo:rerun-if-changed={}", archive.display());
     if !archive.is_file() {
         eprintln!("The proved library is missing: {}.", archive.display());
-        eprintln!("Make it with `rt staticlib fenderacai`,");
+        eprintln!("Make it with the script `library` at the top of the repository,");
         eprintln!("or set FENDERACAI_LIB to the folder that holds {ARCHIVE}.");
         std::process::exit(1);
     }
