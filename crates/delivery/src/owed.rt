@@ -28,7 +28,6 @@ fn lacking(speaker: u8, sound: u16, have: u16) -> u16
 }
 
 impl Copies {
-    #[tactic(auto, unfolding(crate::specs::Owed::no_copies))]
     fn none() -> Copies
         ensures { result ≡ no_copies limits }
     {

@@ -1,6 +1,4 @@
--- `are_marks` meets its contract. The loop's invariant: the marks of the boards passed are marks.
--- Assumes nothing.
--- a turn of the loop that passes
+-- `are_marks` meets its contract. Assumes nothing.
 use Prim.Native.Nat.{ℕ, ◌+◌, ◌≤◌}
 use native.Mathlib.Omega.{arith}
 use native.Mathlib.Decide.{dec_le}
@@ -12,6 +10,7 @@ use Rattle.delivery.proofs.CountLaws.{every-reads, reads-every}
 use Rattle.bench.specs.Setups.{is_mark, is_mark_at}
 use Rattle.bench.proofs.fresh.are_marks.Goals as goal
 
+-- a turn of the loop that passes
 every-next : (k : ℕ) (p : ℕ → Bool) → every_in k p ≡ true → p (k + 1) ≡ true → every_in (k + 1) p ≡ true
 every-next k p h g = reads-every (k + 1) p (λ j l u. go j l u (dec_le j k))
   where

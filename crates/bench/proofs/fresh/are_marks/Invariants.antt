@@ -1,3 +1,4 @@
+-- The loop's invariant of `are_marks`: the marks of the boards passed are marks.
 use Prim.Native.Nat.{◌-◌, ◌≤◌}
 use mathlib.Core.Bool.{true}
 use mathlib.Core.Path.{◌≡◌}

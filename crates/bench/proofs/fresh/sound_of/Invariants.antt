@@ -1,3 +1,4 @@
+-- The loop's invariant of `sound_of`: the set is that of the boards passed that are marked sound.
 use Prim.Native.Nat.{◌-◌, ◌≤◌}
 use mathlib.Core.Path.{◌≡◌}
 use Rattle.delivery.specs.Limits.{limits}

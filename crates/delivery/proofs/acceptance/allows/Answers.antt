@@ -1,5 +1,4 @@
--- `allows` meets its contract. The loop's invariant: the allowance is what is allowed in round r.
--- Assumes nothing.
+-- `allows` meets its contract. Assumes nothing.
 use Prim.Native.Nat.{suc, ◌-◌, ◌≤◌}
 use native.Mathlib.Omega.{arith}
 use mathlib.Core.Path.{◌≡◌, sym, ◌∙◌}

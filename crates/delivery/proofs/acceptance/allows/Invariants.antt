@@ -1,3 +1,4 @@
+-- The loop's invariant of `allows`: the allowance is what is allowed in round r.
 use Prim.Native.Nat.{ℕ, ◌-◌, ◌≤◌}
 use mathlib.Core.Path.{◌≡◌}
 use Rattle.delivery.specs.Limits.{limits}

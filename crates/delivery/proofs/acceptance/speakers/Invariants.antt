@@ -1,3 +1,4 @@
+-- The loop's invariant of `speakers`: the set is that of the boards passed.
 use Prim.Native.Nat.{ℕ, ◌-◌, ◌≤◌, min}
 use mathlib.Core.Bool.{Bool}
 use mathlib.Core.List.{List}

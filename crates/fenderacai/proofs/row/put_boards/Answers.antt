@@ -1,4 +1,4 @@
--- `row::put_boards` meets its contract. The loop's invariant: the first k boards are put. Assumes nothing.
+-- `row::put_boards` meets its contract. Assumes nothing.
 use native.Mathlib.Omega.{arith}
 use Rattle.delivery.specs.Limits.{limits}
 use Rattle.bench.specs.Benches.{board_at, signer_at}

@@ -1,3 +1,4 @@
+-- The loop's invariant of `row::put_boards`: the first k boards are put.
 use Prim.Native.Nat.{◌-◌, ◌≤◌}
 use Rattle.delivery.specs.Limits.{limits}
 use Rattle.bench.specs.Benches.{board_at, signer_at}

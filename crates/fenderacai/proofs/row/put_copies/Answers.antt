@@ -1,4 +1,4 @@
--- `row::put_copies` meets its contract. The loop's invariant: the first i words are put. Assumes nothing.
+-- `row::put_copies` meets its contract. Assumes nothing.
 use native.Mathlib.Omega.{arith}
 use mathlib.Core.Path.{sym}
 use Rattle.delivery.proofs.OwedLaws.{receivers-after}

@@ -1,3 +1,4 @@
+-- The loop's invariant of `row::put_copies`: the first i words are put.
 use Prim.Native.Nat.{◌-◌, ◌≤◌}
 use Rattle.delivery.specs.Owed.{receivers_at}
 use Rattle.delivery.specs.Limits.{limits}

@@ -1,4 +1,4 @@
--- `row::put_delivered` meets its contract. The loop's invariant: what the first k boards delivered is put. Assumes nothing.
+-- `row::put_delivered` meets its contract. Assumes nothing.
 use native.Mathlib.Omega.{arith}
 use Rattle.delivery.specs.Limits.{limits}
 use Rattle.bench.specs.Benches.{heard_by}

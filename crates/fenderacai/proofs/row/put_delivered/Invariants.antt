@@ -1,3 +1,4 @@
+-- The loop's invariant of `row::put_delivered`: what the first k boards delivered is put.
 use Prim.Native.Nat.{◌-◌, ◌≤◌}
 use Rattle.delivery.specs.Limits.{limits}
 use Rattle.bench.specs.Benches.{heard_by}

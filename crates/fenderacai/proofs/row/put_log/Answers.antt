@@ -1,4 +1,4 @@
--- `row::put_log` meets its contract. The loop's invariant: the first i words are put. Assumes nothing.
+-- `row::put_log` meets its contract. Assumes nothing.
 use native.Mathlib.Omega.{arith}
 use Rattle.signer.proofs.LogLaws.{entry-after}
 use Rattle.schedule.proofs.PrintLaws.{parts_next}

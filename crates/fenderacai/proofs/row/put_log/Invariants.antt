@@ -1,3 +1,4 @@
+-- The loop's invariant of `row::put_log`: the first i words are put.
 use Prim.Native.Nat.{◌-◌, ◌≤◌}
 use Rattle.signer.specs.Log.{entry_at}
 use Rattle.delivery.specs.Limits.{limits}

@@ -1,4 +1,4 @@
--- `row::put_owed` meets its contract. The loop's invariant: the copies of the first k speakers' statements are put. Assumes nothing.
+-- `row::put_owed` meets its contract. Assumes nothing.
 use Prim.Native.Nat.{◌+◌}
 use native.Mathlib.Omega.{arith}
 use Rattle.delivery.specs.Limits.{limits}

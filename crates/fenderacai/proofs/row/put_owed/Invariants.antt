@@ -1,3 +1,4 @@
+-- The loop's invariant of `row::put_owed`: the copies of the first k speakers' statements are put.
 use Prim.Native.Nat.{◌-◌, ◌≤◌}
 use Rattle.delivery.specs.Limits.{limits}
 use Rattle.delivery.specs.Owed.{receivers}

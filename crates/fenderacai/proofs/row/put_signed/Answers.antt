@@ -1,4 +1,4 @@
--- `row::put_signed` meets its contract. The loop's invariant: the entries of the first k signers are put. Assumes nothing.
+-- `row::put_signed` meets its contract. Assumes nothing.
 use Prim.Native.Nat.{◌+◌}
 use native.Mathlib.Omega.{arith}
 use Rattle.delivery.specs.Limits.{limits}

@@ -1,3 +1,4 @@
+-- The loop's invariant of `row::put_signed`: the entries of the first k signers are put.
 use Prim.Native.Nat.{◌-◌, ◌≤◌}
 use Rattle.delivery.specs.Limits.{limits}
 use Rattle.bench.specs.Benches.{signed_by}

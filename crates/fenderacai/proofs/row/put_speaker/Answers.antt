@@ -1,4 +1,4 @@
--- `row::put_speaker` meets its contract. The loop's invariant: the first i words are put. Assumes nothing.
+-- `row::put_speaker` meets its contract. Assumes nothing.
 use native.Mathlib.Omega.{arith}
 use Rattle.schedule.proofs.PrintLaws.{parts_next}
 use Rattle.fenderacai.proofs.row.put_speaker.Goals as goal

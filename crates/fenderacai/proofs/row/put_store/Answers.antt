@@ -1,4 +1,4 @@
--- `row::put_store` meets its contract. The loop's invariant: the entries of the first k speakers are put. Assumes nothing.
+-- `row::put_store` meets its contract. Assumes nothing.
 use native.Mathlib.Omega.{arith}
 use Rattle.delivery.specs.Limits.{limits}
 use Rattle.schedule.proofs.PrintLaws.{parts_none, parts_next, length-parts}

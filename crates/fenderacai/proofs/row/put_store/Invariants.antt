@@ -1,3 +1,4 @@
+-- The loop's invariant of `row::put_store`: the entries of the first k speakers are put.
 use Prim.Native.Nat.{◌-◌, ◌≤◌}
 use Rattle.delivery.specs.Limits.{limits}
 use Rattle.delivery.specs.Delivered.{heard_in}

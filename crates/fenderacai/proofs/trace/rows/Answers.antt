@@ -1,5 +1,4 @@
--- `trace::rows` meets its contract. The loop's invariant: putting the rows of the events that are left gives what putting
--- all of them gives. Assumes nothing.
+-- `trace::rows` meets its contract. Assumes nothing.
 use Prim.Native.Nat.{◌+◌, ◌-◌}
 use native.Mathlib.Omega.{arith}
 use mathlib.Core.Path.{◌≡◌, ap, ◌∙◌}

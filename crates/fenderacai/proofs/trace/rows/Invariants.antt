@@ -1,3 +1,5 @@
+-- The loop's invariant of `trace::rows`: putting the rows of the events that are left gives what putting all of them
+-- gives.
 use Prim.Native.Nat.{◌+◌, ◌-◌, ◌*◌, ◌≤◌}
 use mathlib.Core.Path.{◌≡◌}
 use lib.ListN.{length, drop}

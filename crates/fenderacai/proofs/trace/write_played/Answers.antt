@@ -1,6 +1,5 @@
 -- `trace::write_played` meets its contract: the row of the fresh bench and those of the events are the file's trace.
 -- Assumes nothing.
--- the file was read
 use Prim.Native.Nat.{ℕ, ◌-◌}
 use native.Mathlib.Omega.{arith}
 use mathlib.Core.Path.{◌≡◌, sym, ap, subst, ◌∙◌}

@@ -1,5 +1,4 @@
--- `report::board_lines` meets its contract. The loop's invariant: the lines of the first k boards are put, each of them within its
--- most bytes. Assumes nothing.
+-- `report::board_lines` meets its contract. Assumes nothing.
 use Prim.Native.Nat.{◌+◌, ◌≤◌}
 use native.Mathlib.Omega.{arith}
 use lib.ListN.{length}

@@ -1,3 +1,5 @@
+-- The loop's invariant of `report::board_lines`: the lines of the first k boards are put, each of them within its most
+-- bytes.
 use Prim.Native.Nat.{◌+◌, ◌-◌, ◌*◌, ◌≤◌}
 use Rattle.delivery.specs.Limits.{limits}
 use Rattle.schedule.specs.Prints.{board_lines, board_line_bytes, PutAt}

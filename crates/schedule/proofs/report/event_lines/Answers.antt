@@ -1,5 +1,4 @@
--- `report::event_lines` meets its contract. The loop's invariant: the lines of the first k events are put, each of them within its
--- most bytes. Assumes nothing.
+-- `report::event_lines` meets its contract. Assumes nothing.
 use Prim.Native.Nat.{◌+◌, ◌≤◌}
 use native.Mathlib.Omega.{arith}
 use mathlib.Core.Path.{◌≡◌}

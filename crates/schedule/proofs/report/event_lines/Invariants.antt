@@ -1,3 +1,5 @@
+-- The loop's invariant of `report::event_lines`: the lines of the first k events are put, each of them within its most
+-- bytes.
 use Prim.Native.Nat.{◌-◌, ◌*◌, ◌≤◌}
 use Rattle.schedule.specs.Prints.{event_lines, event_line_bytes, PutAt}
 use Rattle.schedule.proofs.report.event_lines.Given as goal

@@ -1,5 +1,4 @@
 -- `text::board_line` meets its contract: its words are put one after another. Assumes nothing.
--- there is room for the line's words, its letter, three spaces and the line end
 use Rattle.schedule.specs.Prints.{board_line}
 use Rattle.schedule.proofs.PrintLaws.{put_then}
 use Rattle.schedule.proofs.text.board_line.Goals as goal

@@ -1,4 +1,4 @@
--- `text::word` meets its contract. The loop's invariant: the first k bytes are put. Assumes nothing.
+-- `text::word` meets its contract. Assumes nothing.
 use Prim.Native.Nat.{ℕ, ◌+◌}
 use native.Mathlib.Numerals.{add-one}
 use native.Mathlib.Omega.{arith}

@@ -1,3 +1,4 @@
+-- The loop's invariant of `text::word`: the first k bytes are put.
 use Prim.Native.Nat.{◌-◌, ◌≤◌}
 use lib.ListN.{length, take}
 use Rattle.schedule.specs.Prints.{PutAt}

@@ -1,6 +1,4 @@
--- `Bench::holders_in` meets its contract. The loop's invariant: the set is that of the boards passed.
--- Assumes nothing.
--- whether board k has delivered the statement
+-- `Bench::holders_in` meets its contract. Assumes nothing.
 use borrow.Author.Rules.{rules}
 use Prim.Native.Nat.{ℕ, ◌+◌, ◌-◌, ◌<◌}
 use borrow.Author.Tests.{eq-eqb, ne_eqb}

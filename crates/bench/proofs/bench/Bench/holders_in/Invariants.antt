@@ -1,3 +1,4 @@
+-- The loop's invariant of `Bench::holders_in`: the set is that of the boards passed.
 use Prim.Native.Nat.{ℕ, ◌-◌, ◌≤◌}
 use mathlib.Core.Bool.{Bool}
 use mathlib.Core.List.{List}
@@ -12,6 +13,7 @@ use Rattle.vote.specs.Boards.{fresh_board}
 use Rattle.vote.specs.declared.board.Board.{Board}
 use Rattle.bench.proofs.bench.Bench.holders_in.Given as goal
 
+-- whether board k has delivered the statement
 abbrev pub has : List Board → ℕ → ℕ → ℕ → Bool
 has bs s i k = neg (eqb (heard limits (nth bs k (fresh_board limits)).delivered s i) 0)
 

@@ -1,6 +1,4 @@
--- `Bench::run` meets its contract. The loop's invariant: playing the events that are left, and writing their answers,
--- gives what playing them all gives, of the bench that the boards, signers and copies make. Assumes nothing.
--- the bench that is played
+-- `Bench::run` meets its contract. Assumes nothing.
 use Prim.Native.Nat.{ℕ, ◌+◌, ◌-◌}
 use native.Mathlib.Omega.{arith}
 use mathlib.Core.Path.{◌≡◌, refl, sym, ap, ◌∙◌}

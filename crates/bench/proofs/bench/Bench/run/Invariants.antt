@@ -1,3 +1,5 @@
+-- The loop's invariant of `Bench::run`: playing the events that are left, and writing their answers, gives what playing
+-- them all gives, of the bench that the boards, signers and copies make.
 use Prim.Native.Nat.{ℕ, ◌-◌, ◌*◌, ◌≤◌}
 use mathlib.Core.Path.{◌≡◌}
 use mathlib.Core.List.{List}
@@ -12,6 +14,7 @@ use Rattle.bench.specs.Runs.{after, answers_to, events_in}
 use Rattle.bench.specs.declared.bench.Bench.{Bench}
 use Rattle.bench.proofs.bench.Bench.run.Given as goal
 
+-- the bench that is played
 abbrev pub made : ℕ → ℕ → List Board → List Signer → Owed → Bench
 made n sound boards signers owed = record { n = n; sound = sound; boards = boards; signers = signers; owed = owed }
 

@@ -1,5 +1,4 @@
 -- `Event::check` meets its contract: each test passes over its row, or stops there. Assumes nothing.
--- the answer of a row that stops the event
 use Prim.Native.Nat.{ℕ}
 use mathlib.Core.Path.{◌≡◌, sym, ◌∙◌}
 use mathlib.Core.Bool.{false}

@@ -1,5 +1,4 @@
 -- `Event::check_state` meets its contract: each test passes over its row, or stops there. Assumes nothing.
--- a bench that has the parts, and boards where the event names them
 use Prim.Native.Nat.{ℕ}
 use mathlib.Core.Path.{◌≡◌, sym, ◌∙◌}
 use mathlib.Core.Bool.{false}
@@ -19,6 +18,7 @@ use Rattle.signer.specs.declared.signer.Signer.{Signer}
 use Rattle.bench.specs.declared.parts.Rest.{Rest}
 use Rattle.bench.proofs.event.Event.check_state.Goals as goal
 
+-- a bench that has the parts, and boards where the event names them
 record On (e : Event) (a : Board) (own : Signer) (rest : Rest) : Type 0 where
   bench : Bench
   has : Has limits bench e a own rest

@@ -1,5 +1,4 @@
 -- `Event::effect` meets its contract: the tests say which kind the event has. Assumes nothing.
--- a kind that is another number is not a turn
 use Prim.Native.Nat.{ℕ}
 use borrow.Author.Tests.{eq-eqb}
 use mathlib.Core.Bool.{false, true≢false}
@@ -22,6 +21,7 @@ use Rattle.bench.proofs.EffectLaws.{effect-proposing, effect-announcing, effect-
 use Rattle.bench.proofs.PartLaws.{put-board, put-signature, turn_alone, done}
 use Rattle.bench.proofs.event.Event.effect.Goals as goal
 
+-- a kind that is another number is not a turn
 clash : (k j : ℕ) → k ≡ j → eqb j turning ≡ false → k ≡ turning → ⊥
 clash k j h f t = true≢false (sym (eq-eqb k turning t) ∙ other k j turning h f)
 

@@ -1,5 +1,4 @@
--- `Bus::read_marks` meets its contract. The loop's invariant: the marks read so far stand at the front of the array, with
--- 0 after them, and reading all is reading those that are left. Assumes nothing.
+-- `Bus::read_marks` meets its contract. Assumes nothing.
 use Prim.Native.Nat.{ℕ, ◌<◌}
 use native.Mathlib.Omega.{arith}
 use mathlib.Core.Path.{◌≡◌, sym, ap, ◌∙◌}

@@ -1,3 +1,5 @@
+-- The loop's invariant of `Bus::read_marks`: the marks read so far stand at the front of the array, with 0 after them,
+-- and reading all is reading those that are left.
 use Prim.Native.Nat.{◌-◌, ◌≤◌}
 use mathlib.Core.Path.{◌≡◌}
 use lib.ListN.{length, take}
