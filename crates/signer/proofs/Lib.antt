@@ -3,4 +3,3 @@ pub mod ConditionalLaws
 pub mod LogLaws
 pub mod SignerLaws
 pub mod HistoryLaws
-pub mod Rules

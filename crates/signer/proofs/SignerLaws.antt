@@ -7,9 +7,8 @@ use mathlib.Core.Logic.{◌⊎◌, inl, inr, ⊎_elim}
 use borrow.Author.Tests.{ltb-true, lt-ltb}
 use lib.Dec.{ltb}
 use Rattle.signer.specs.Log.{is_identifier, entry_of, entry_at}
-use Rattle.signer.specs.Signer.{fresh_signer, Signed, grants, sign}
+use Rattle.signer.specs.Signer.{Signing, fresh_signer, Signed, grants, sign}
 use Rattle.signer.specs.declared.signer.Signer.{Signer}
-use Rattle.signer.specs.declared.signer.Signing.{Signing}
 use Rattle.signer.proofs.ConditionalLaws.{if-elim, and_left, and_right}
 use Rattle.signer.proofs.LogLaws.{Whole, empty-whole, with-whole, entry-empty, entry-same, entry_other, entry-elim}
 use Rattle.signer.proofs.FromOneLaws.{within-high}

@@ -4,7 +4,6 @@ use mathlib.Core.List.{List, [], ◌∷◌, Memᴰ}
 use Rattle.std.specs.Prelude.{if◌then◌else◌}
 use Rattle.signer.specs.Log.{entry_of, is_identifier, empty_log, entry_at, with_entry}
 use Rattle.signer.specs.declared.signer.Signer.{Signer}
-use Rattle.signer.specs.declared.signer.Signing.{Signing}
 
 -- a fresh signer: `last` is 0, and nothing is signed
 unfoldable pub fresh_signer : ℕ → Signer
@@ -17,6 +16,11 @@ Signed s i v = entry_at s.log i ≡ entry_of v
 -- a request under i is granted if i is an identifier above `last`; the value plays no part
 unfoldable pub grants : ℕ → Signer → ℕ → Bool
 grants limit s i = is_identifier limit i && ltb s.last.0 i
+
+-- what comes of a request: the signer afterwards, and whether it signed
+pub record Signing : Type 0 where
+  pub signer : Signer
+  pub signed : Bool
 
 -- a request for value v under identifier i: if it is granted, v is recorded under i, which is the new
 -- `last`; if it is refused, the signer is as it was, so nothing later depends on what was refused

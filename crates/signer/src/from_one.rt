@@ -2,12 +2,9 @@ ghost use Rattle.std.specs.Prelude.{◌≡◌};
 ghost use Rattle.signer.specs.FromOne.{is_within};
 
 // Whether k is a number from 1 to the limit.
-#[tactic(auto, using(crate::proofs::Rules::rules_from_one_within))]
+#[tactic(auto, unfolding(crate::specs::FromOne::is_within))]
 pub fn within(k: u8, limit: u8) -> bool
     ensures { result ≡ is_within limit k }
 {
-    if k == 0 {
-        return false;
-    }
-    k <= limit
+    (1..=limit).contains(&k)
 }

@@ -4,7 +4,7 @@ ghost use Rattle.signer.specs.Log.{identifiers, is_identifier};
 use crate::from_one;
 
 // The number under which a statement is signed.
-#[derive(Clone, Copy)]
+#[derive(Clone, Copy, Debug, PartialEq, Eq, PartialOrd, Ord)]
 pub struct Identifier(pub u8);
 
 impl Identifier {

@@ -9,4 +9,4 @@ mod signer;
 
 pub use identifier::Identifier;
 pub use log::Log;
-pub use signer::{Signer, Signing};
+pub use signer::Signer;

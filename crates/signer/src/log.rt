@@ -4,7 +4,7 @@ ghost use Rattle.signer.specs.Log.{identifiers, entry_of, value_of, empty_log, e
 use crate::identifier::Identifier;
 
 // What one speaker said under each identifier. Entry 0: nothing; entry v + 1: the value v.
-#[derive(Clone, Copy)]
+#[derive(Clone, Copy, Debug, PartialEq, Eq)]
 pub struct Log {
     pub entries: [u32; Identifier::LAST as usize],
 }
@@ -33,43 +33,34 @@ impl Log {
     }
 
     // The value that an entry stands for; the blank where it stands for none.
-    #[tactic(auto, using(crate::proofs::Rules::rules_log_log_value_of))]
+    #[tactic(auto, unfolding(crate::specs::Log::value_of))]
     pub fn value_of(entry: u32) -> u16
         ensures { result ≡ value_of entry }
     {
-        if entry == 0 {
-            return Log::BLANK;
-        }
-        if entry - 1 > Log::VALUES as u32 {
+        if entry == 0 || entry - 1 > Log::VALUES as u32 {
             return Log::BLANK;
         }
         (entry - 1) as u16
     }
 
     // The entry under an identifier; nothing stands under a number that is none.
-    #[tactic(auto, using(crate::proofs::Rules::rules_log_log_entry))]
-    pub fn entry(self, id: Identifier) -> u32
-        ensures { result ≡ entry_at self id.0 }
+    #[tactic(auto, unfolding(crate::specs::Log::entry_at, crate::specs::FromOne::nth, crate::specs::FromOne::is_within))]
+    pub fn entry(&self, id: Identifier) -> u32
+        ensures { result ≡ entry_at self.now id.0 }
     {
-        let i = id.0;
         if !id.in_range() {
             return 0;
         }
-        let entries = self.entries;
-        entries[(i - 1) as usize]
+        self.entries[id.0 as usize - 1]
     }
 
-    // The log with this entry under an identifier; unchanged where the number is none.
-    #[tactic(auto, using(crate::proofs::Rules::rules_log_log_with_entry))]
-    pub fn with_entry(self, id: Identifier, entry: u32) -> Log
-        ensures { result ≡ with_entry self id.0 entry }
+    // Puts this entry under an identifier; a number that is none takes nothing.
+    #[tactic(auto, unfolding(crate::specs::Log::with_entry, crate::specs::FromOne::set_nth, crate::specs::FromOne::is_within))]
+    pub fn set_entry(&mut self, id: Identifier, entry: u32)
+        ensures { self.new ≡ with_entry self.old id.0 entry }
     {
-        let i = id.0;
-        if !id.in_range() {
-            return self;
+        if id.in_range() {
+            self.entries[id.0 as usize - 1] = entry;
         }
-        let mut entries = self.entries;
-        entries[(i - 1) as usize] = entry;
-        Log { entries }
     }
 }

@@ -10,20 +10,19 @@ fn write_number(rt: &HostRuntime, n: u64) -> io::Result<()> {
     print!(rt; "{n} ")
 }
 
-fn ask(rt: &HostRuntime, s: Signer, id: u8, value: u16) -> io::Result<Signer> {
-    let out = s.sign(Identifier(id), value);
+fn ask(rt: &HostRuntime, signer: &mut Signer, id: u8, value: u16) -> io::Result<()> {
+    let signed = signer.sign(Identifier(id), value);
     write_number(rt, id as u64)?;
     write_number(rt, value as u64)?;
-    if out.signed {
-        print!(rt; "signed\n")?;
+    if signed {
+        print!(rt; "signed\n")
     } else {
-        print!(rt; "refused\n")?;
+        print!(rt; "refused\n")
     }
-    Ok(out.signer)
 }
 
-fn show(rt: &HostRuntime, s: Signer, id: u8) -> io::Result<()> {
-    let entry = s.entry(Identifier(id));
+fn show(rt: &HostRuntime, signer: &Signer, id: u8) -> io::Result<()> {
+    let entry = signer.entry(Identifier(id));
     write_number(rt, id as u64)?;
     if entry == 0 {
         print!(rt; "nothing\n")
@@ -34,24 +33,24 @@ fn show(rt: &HostRuntime, s: Signer, id: u8) -> io::Result<()> {
 }
 
 fn main(rt: HostRuntime) -> io::Result<()> {
-    let mut s = Signer::fresh();
+    let mut signer = Signer::fresh();
     // document 01, letter d
-    s = ask(&rt, s, 5, 700)?;
-    s = ask(&rt, s, 3, 701)?;
-    s = ask(&rt, s, 5, 702)?;
-    s = ask(&rt, s, 6, 0)?;
+    ask(&rt, &mut signer, 5, 700)?;
+    ask(&rt, &mut signer, 3, 701)?;
+    ask(&rt, &mut signer, 5, 702)?;
+    ask(&rt, &mut signer, 6, 0)?;
     // numbers that are no identifiers, and the highest two
-    s = ask(&rt, s, 0, 1)?;
-    s = ask(&rt, s, Identifier::LAST + 1, 2)?;
-    s = ask(&rt, s, 255, 3)?;
-    s = ask(&rt, s, Identifier::LAST - 1, Log::VALUES)?;
-    s = ask(&rt, s, Identifier::LAST, 0)?;
-    s = ask(&rt, s, Identifier::LAST, 4)?;
-    show(&rt, s, 0)?;
-    show(&rt, s, 3)?;
-    show(&rt, s, 5)?;
-    show(&rt, s, 6)?;
-    show(&rt, s, Identifier::LAST - 1)?;
-    show(&rt, s, Identifier::LAST)?;
-    show(&rt, s, Identifier::LAST + 1)
+    ask(&rt, &mut signer, 0, 1)?;
+    ask(&rt, &mut signer, Identifier::LAST + 1, 2)?;
+    ask(&rt, &mut signer, 255, 3)?;
+    ask(&rt, &mut signer, Identifier::LAST - 1, Log::VALUES)?;
+    ask(&rt, &mut signer, Identifier::LAST, 0)?;
+    ask(&rt, &mut signer, Identifier::LAST, 4)?;
+    show(&rt, &signer, 0)?;
+    show(&rt, &signer, 3)?;
+    show(&rt, &signer, 5)?;
+    show(&rt, &signer, 6)?;
+    show(&rt, &signer, Identifier::LAST - 1)?;
+    show(&rt, &signer, Identifier::LAST)?;
+    show(&rt, &signer, Identifier::LAST + 1)
 }
