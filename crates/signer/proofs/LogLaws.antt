@@ -1,35 +1,22 @@
 -- Laws of logs. Assumes nothing.
-use Prim.Native.Nat.{ℕ, ◌+◌, zero, suc, ◌-◌, ◌≤◌, ◌<◌}
+use Prim.Native.Nat.{ℕ, ◌+◌, zero, suc, ◌≤◌, ◌<◌}
 use mathlib.Core.Path.{◌≡◌, refl, ap, subst⁻¹, ◌∙◌}
 use mathlib.Core.List.{List}
 use mathlib.Core.Bool.{true, false}
 use native.Mathlib.Omega.{arith}
 use native.Mathlib.Decide.{ℕ_discrete}
-use borrow.Author.Tests.{le-leb, lt-leb, leb-true}
+use borrow.Author.Tests.{le-leb, leb-true}
 use lib.Dec.{leb}
-use lib.ListN.{length, get_or, set, length-replicate}
+use lib.ListN.{length, get_or, length-replicate}
 use Rattle.signer.specs.Log.{values, value_of, entry_of, is_identifier, empty_log, entry_at, with_entry}
 use Rattle.signer.specs.declared.log.Log.{Log}
-use Rattle.signer.proofs.ConditionalLaws.{if-true, if-false, if-elim}
-use Rattle.signer.proofs.FromOneLaws.{within_low, within-high, within-out, nth-index, nth_after, set_nth-index, nth-none, set_nth-none, length-set_nth, nth-set-same, nth-set-other, nth-replicate}
+use Rattle.signer.proofs.ConditionalLaws.{if-true, if-elim}
+use Rattle.signer.proofs.FromOneLaws.{within_low, within-high, within-out, nth_after, nth-none, set_nth-none, length-set_nth, nth-set-same, nth-set-other, nth-replicate}
 
--- an entry's value, where it stands for one, and where it stands for none
+-- an entry's value
 pub value-entry : (v : ℕ) → v ≤ values → value_of (entry_of v) ≡ v
 unfolding value_of
 value-entry v h = if-true (leb v values) v 0 (le-leb v values h)
-
-pub value-index : (x : ℕ) → 1 ≤ x → x - 1 ≤ values → value_of x ≡ x - 1
-value-index zero l h = absurd (omega arith)
-value-index (suc v) l h = value-entry v (omega arith) ∙ omega arith
-
-pub value_none : value_of 0 ≡ 0
-unfolding value_of
-value_none = refl
-
-pub value-beyond : (x : ℕ) → values < x - 1 → value_of x ≡ 0
-unfolding value_of
-value-beyond zero h = refl
-value-beyond (suc v) h = if-false (leb v values) v 0 (lt-leb v values (omega arith))
 
 -- it is a value or the blank, and an entry with a value is that value's
 pub value-within : (x : ℕ) → value_of x ≤ values
@@ -105,17 +92,7 @@ unfolding with_entry
 with-outside limit l i e w h =
     ap (λ (es : List ℕ). record { entries = es }) (set_nth-none l.entries i e (outside limit l i w h))
 
--- where an identifier's entry stands
-pub entry-index : (limit : ℕ) (l : Log) (i : ℕ) → is_identifier limit i ≡ true → entry_at l i ≡ get_or l.entries (i - 1) 0
-unfolding entry_at
-entry-index limit l i h = nth-index l.entries i 0 (within_low limit i h)
-
+-- the entry under the identifier that follows i stands at index i
 pub entry-after : (l : Log) (i : ℕ) → entry_at l (i + 1) ≡ get_or l.entries i 0
 unfolding entry_at
 entry-after l i = nth_after l.entries i 0
-
-pub with-index : (limit : ℕ) (l : Log) (i e : ℕ) → is_identifier limit i ≡ true
-    → with_entry l i e ≡ record { entries = set l.entries (i - 1) e }
-unfolding with_entry
-with-index limit l i e h =
-    ap (λ (es : List ℕ). record { entries = es }) (set_nth-index l.entries i e (within_low limit i h))

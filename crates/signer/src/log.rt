@@ -37,10 +37,10 @@ impl Log {
     pub fn value_of(entry: u32) -> u16
         ensures { result ≡ value_of entry }
     {
-        if entry == 0 || entry - 1 > Log::VALUES as u32 {
-            return Log::BLANK;
-        }
-        (entry - 1) as u16
+        entry
+            .checked_sub(1)
+            .and_then(|v| u16::try_from(v).ok())
+            .unwrap_or(Log::BLANK)
     }
 
     // The entry under an identifier; nothing stands under a number that is none.
