@@ -1,6 +1,7 @@
 -- Laws of what a board has delivered. Assumes nothing.
-use Prim.Native.Nat.{ℕ, ◌*◌}
-use mathlib.Core.Path.{◌≡◌, refl, ap, ◌∙◌}
+use Prim.Native.Nat.{ℕ, ◌+◌, ◌-◌, ◌*◌}
+use Rattle.std.specs.Prelude.{None, Some}
+use mathlib.Core.Path.{◌≡◌, refl, sym, ap, ◌∙◌}
 use mathlib.Core.List.{List}
 use mathlib.Core.Bool.{true, false}
 use mathlib.Core.Logic.{◌⊎◌, inl, inr, ⊎_elim}
@@ -8,16 +9,16 @@ use native.Mathlib.Omega.{arith}
 use native.Mathlib.Decide.{ℕ_discrete}
 use borrow.Author.Tests.{eqb-true, eq-eqb, ne_eqb}
 use lib.Dec.{eqb}
-use lib.ListN.{length, length-replicate}
+use lib.ListN.{length, get_or, set, length-replicate}
 use Rattle.signer.specs.FromOne.{set_nth}
 use Rattle.signer.specs.Log.{is_identifier, entry_of}
 use Rattle.signer.proofs.ConditionalLaws.{if-elim, if-true, if-false}
-use Rattle.signer.proofs.FromOneLaws.{nth-none, set_nth-none, length-set_nth, nth-set-same, nth-replicate, within_low, nth-change}
+use Rattle.signer.proofs.FromOneLaws.{nth-none, set_nth-none, nth_after, set_nth-index, length-set_nth, nth-set-same, nth-replicate, within_low, nth-change}
 use Rattle.delivery.specs.Limits.{Limits}
 use Rattle.delivery.specs.Bus.{is_board}
-use Rattle.delivery.specs.Delivered.{place_of, heard_in, nothing_delivered, heard, deliver}
+use Rattle.delivery.specs.Delivered.{place_of, index_of, heard_in, nothing_delivered, heard, deliver}
 use Rattle.delivery.specs.declared.delivered.Delivered.{Delivered}
-use Rattle.delivery.proofs.PlaceLaws.{place-nobody, place-outside, place-there, place-high, place-own}
+use Rattle.delivery.proofs.PlaceLaws.{place-none, place-some, place-nobody, place-outside, place-there, place-high, place-own}
 
 -- there is an entry for each board and identifier
 pub record Whole (L : Limits) (d : Delivered) : Type 0 where
@@ -36,6 +37,14 @@ heard-nothing L s i = nth-replicate (L.boards * L.identifiers) (place_of L s i) 
 pub heard-nowhere : (L : Limits) (es : List ℕ) (s i : ℕ) → place_of L s i ≡ 0 → heard_in L es s i ≡ 0
 unfolding heard_in
 heard-nowhere L es s i z = nth-none es (place_of L s i) 0 (λ l. absurd (omega (arith, z)))
+
+-- so what is read stands at the index, and nothing is read where there is none
+pub heard-none : (L : Limits) (es : List ℕ) (s i : ℕ) → index_of L s i ≡ None → heard_in L es s i ≡ 0
+heard-none L es s i e = heard-nowhere L es s i (place-none L s i e)
+
+pub heard-at : (L : Limits) (es : List ℕ) (s i j : ℕ) → index_of L s i ≡ Some j → heard_in L es s i ≡ get_or es j 0
+unfolding heard_in
+heard-at L es s i j e = rw (place-some L s i j e) (nth_after es j 0)
 
 -- so a number that is no board's has said nothing
 pub heard-nobody : (L : Limits) (es : List ℕ) (s i : ℕ) → is_board L s ≡ false → heard_in L es s i ≡ 0
@@ -68,6 +77,9 @@ heard-stored L d s i e s' i' = go (ℕ_discrete (place_of L s i) 0)
         (λ h. let o = place-own L s i s' i' z h.0 in inr (o.0, o.1, h.1))
         (nth-change d.entries (place_of L s' i') (place_of L s i) e 0)
 
+back : (j : ℕ) → j + 1 - 1 ≡ j
+back j = omega arith
+
 module _ (L : Limits) (d : Delivered) (s i v : ℕ) where
   -- a statement is stored where there is none, and where there is one nothing changes
   pub deliver-new : heard L d s i ≡ 0 → deliver L d s i v ≡ stored L d s i (entry_of v)
@@ -77,6 +89,20 @@ module _ (L : Limits) (d : Delivered) (s i v : ℕ) where
   pub deliver-there : (heard L d s i ≡ 0 → ⊥) → deliver L d s i v ≡ d
   unfolding deliver
   deliver-there h = if-false (eqb (heard L d s i) 0) (stored L d s i (entry_of v)) d (ne_eqb (heard L d s i) 0 h)
+
+  -- by the index at which it would stand
+  pub deliver-none : index_of L s i ≡ None → deliver L d s i v ≡ d
+  deliver-none e = deliver-new (heard-none L d.entries s i e) ∙ stored-nowhere L d s i (entry_of v) (place-none L s i e)
+
+  pub deliver-at : (j : ℕ) → index_of L s i ≡ Some j → get_or d.entries j 0 ≡ 0
+      → deliver L d s i v ≡ record { entries = set d.entries j (entry_of v) }
+  deliver-at j e z =
+      deliver-new (heard-at L d.entries s i j e ∙ z)
+      ∙ ap (λ (p : ℕ). record { entries = set_nth d.entries p (entry_of v) }) (place-some L s i j e)
+      ∙ ap (λ (es : List ℕ). record { entries = es }) (set_nth-index d.entries (j + 1) (entry_of v) (omega arith) ∙ ap (λ (k : ℕ). set d.entries k (entry_of v)) (back j))
+
+  pub deliver-taken : (j : ℕ) → index_of L s i ≡ Some j → (get_or d.entries j 0 ≡ 0 → ⊥) → deliver L d s i v ≡ d
+  deliver-taken j e f = deliver-there (λ z. f (sym (heard-at L d.entries s i j e) ∙ z))
 
   pub deliver-whole : Whole L d → Whole L (deliver L d s i v)
   unfolding deliver

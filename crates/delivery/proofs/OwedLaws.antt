@@ -1,13 +1,14 @@
 -- Laws of the copies that are owed. Assumes nothing.
-use Prim.Native.Nat.{ℕ, ◌+◌}
+use Prim.Native.Nat.{ℕ, ◌+◌, ◌-◌}
 use mathlib.Core.Path.{◌≡◌, refl, ap, sym, ◌∙◌}
-use mathlib.Core.Bool.{Bool, true}
+use mathlib.Core.Bool.{Bool, true, false}
 use mathlib.Core.Logic.{◌⊎◌, ⊎_elim}
+use mathlib.Core.List.{List}
 use native.Mathlib.Omega.{arith}
 use lib.Dec.{eqb}
-use lib.ListN.{length, get_or, length-replicate}
+use lib.ListN.{length, get_or, set, length-replicate}
 use Rattle.signer.specs.Log.{is_identifier}
-use Rattle.signer.proofs.FromOneLaws.{nth_after, length-set_nth, nth-set-same, nth-set-other, nth-change, nth-replicate, within_low, within-high}
+use Rattle.signer.proofs.FromOneLaws.{within-out, nth-any, set_nth-index, set_nth-none, nth_after, length-set_nth, nth-set-same, nth-set-other, nth-change, nth-replicate, within_low, within-high}
 use Rattle.delivery.specs.Tests.{◌and◌, ◌or◌, neg}
 use Rattle.delivery.specs.Limits.{Limits}
 use Rattle.delivery.specs.Bus.{is_board}
@@ -43,6 +44,29 @@ receivers-copies L o s i = refl
 pub receivers-after : (c : Copies) (i : ℕ) → receivers_at c (i + 1) ≡ get_or c.receivers i 0
 unfolding receivers_at
 receivers-after c i = nth_after c.receivers i 0
+
+-- where a speaker's copies stand, and that a number that is no board's takes none
+module _ (L : Limits) (o : Owed) (s : ℕ) (w : length o.speakers ≡ L.boards) where
+  pub copies-at : (c : Copies) → is_board L s ≡ true → copies_of L o s ≡ get_or o.speakers (s - 1) c
+  unfolding copies_of
+  copies-at c h =
+      nth-any o.speakers s (no_copies L) c (within_low L.boards s h) (omega (arith, w, within-high L.boards s h))
+
+  pub with-nobody : (i m : ℕ) → is_board L s ≡ false → with_receivers L o s i m ≡ o
+  unfolding with_receivers with_copies
+  with-nobody i m h =
+      ap
+      (λ (cs : List Copies). record { speakers = cs })
+      (set_nth-none o.speakers s _ (λ l. omega (arith, w, within-out L.boards s h l)))
+
+  pub with-at : (c : Copies) (i m : ℕ) → is_board L s ≡ true
+      → with_receivers L o s i m ≡ record { speakers = set o.speakers (s - 1) (with_receivers_at (get_or o.speakers (s - 1) c) i m) }
+  unfolding with_receivers with_copies
+  with-at c i m h =
+      ap
+      (λ (cs : List Copies). record { speakers = cs })
+      (set_nth-index o.speakers s _ (within_low L.boards s h)
+      ∙ ap (λ (d : Copies). set o.speakers (s - 1) (with_receivers_at d i m)) (copies-at c h))
 
 -- where nothing is owed
 copies-nothing : (L : Limits) (s : ℕ) → copies_of L (nothing_owed L) s ≡ no_copies L

@@ -1,6 +1,7 @@
 -- Laws of the places at which entries stand. Assumes nothing.
-use Prim.Native.Nat.{ℕ, ◌+◌, ◌-◌, ◌*◌, ◌≤◌, ◌<◌}
-use mathlib.Core.Path.{◌≡◌, sym, ap, ◌∙◌}
+use Prim.Native.Nat.{ℕ, zero, suc, ◌+◌, ◌-◌, ◌*◌, ◌≤◌, ◌<◌}
+use Rattle.std.specs.Prelude.{Option, None, Some}
+use mathlib.Core.Path.{◌≡◌, refl, sym, ap, ◌∙◌}
 use mathlib.Core.Bool.{true, false}
 use native.Mathlib.Omega.{arith}
 use native.Mathlib.Nat.{suc-mul, mul-le-mul_right}
@@ -11,7 +12,7 @@ use Rattle.signer.proofs.FromOneLaws.{within-high, within_low}
 use Rattle.delivery.specs.Tests.{◌and◌}
 use Rattle.delivery.specs.Limits.{Limits}
 use Rattle.delivery.specs.Bus.{is_board}
-use Rattle.delivery.specs.Delivered.{place_of}
+use Rattle.delivery.specs.Delivered.{place_of, index_at, index_of}
 use Rattle.delivery.proofs.TestLaws.{and_left, and_right, and_in, and-no-left, and-no-right}
 
 -- in rows of w places each, the places of row a come before those of every later row b
@@ -104,3 +105,43 @@ place-own L s i s' i' z e = go (place-made L s i z) (place-made L s' i' (λ y. z
           omega (arith, r, within_low L.boards s m.0, within_low L.boards s' m'.0),
           omega (arith, p, ap (λ (a : ℕ). a * L.identifiers) r),
         )
+
+-- a place by its index
+place_at : Option ℕ → ℕ
+place_at None = 0
+place_at (Some j) = suc j
+
+place-index : (p : ℕ) → place_at (index_at p) ≡ p
+unfolding place_at index_at
+place-index zero = refl
+place-index (suc j) = refl
+
+module _ (L : Limits) (s i : ℕ) where
+  -- what no board can say has no index
+  pub index-nobody : is_board L s ≡ false → index_of L s i ≡ None
+  unfolding index_of index_at
+  index-nobody h = ap index_at (place-nobody L s i h)
+
+  pub index-outside : is_identifier L.identifiers i ≡ false → index_of L s i ≡ None
+  unfolding index_of index_at
+  index-outside h = ap index_at (place-outside L s i h)
+
+  -- and what a board can say has one
+  pub index-there : is_board L s ≡ true → is_identifier L.identifiers i ≡ true
+      → index_of L s i ≡ Some ((s - 1) * L.identifiers + (i - 1))
+  unfolding index_of index_at
+  index-there b h =
+      let e : place_of L s i ≡ suc ((s - 1) * L.identifiers + (i - 1)) = omega (arith, place-there L s i b h, within_low L.identifiers i h) in
+      ap index_at e
+
+  -- the place of an index, and that it is one of all that there are
+  pub place-none : index_of L s i ≡ None → place_of L s i ≡ 0
+  unfolding index_of place_at
+  place-none e = sym (place-index (place_of L s i)) ∙ ap place_at e
+
+  pub place-some : (j : ℕ) → index_of L s i ≡ Some j → place_of L s i ≡ j + 1
+  unfolding index_of place_at
+  place-some j e = let p : place_of L s i ≡ suc j = sym (place-index (place_of L s i)) ∙ ap place_at e in omega arith
+
+  pub index-high : (j : ℕ) → index_of L s i ≡ Some j → j < L.boards * L.identifiers
+  index-high j e = omega (arith, place-some j e, place-high L s i)

@@ -1,52 +1,48 @@
 -- For each function, the laws that its proof goes by.
 use Rattle.delivery.proofs.AllRoundsLaws.{allowed-blank, allowed-none, ballot-sent, ballot-unopened, ballot-unsent, ballot-value, opening-sent, opening-unsent, some-opened-or, some-unopened}
 use Rattle.delivery.proofs.CountLaws.{count-le}
-use Rattle.delivery.proofs.DeliveredLaws.{deliver-new, deliver-there, heard-nowhere, stored-nowhere}
+use Rattle.delivery.proofs.DeliveredLaws.{heard-none, heard-at, deliver-none, deliver-at, deliver-taken, deliver-new, deliver-there, heard-nowhere, stored-nowhere}
 use Rattle.delivery.proofs.OneRoundLaws.{backs-nothing, backs-value, reads-bears, says-entry, says-low, says_none, value-says}
-use Rattle.delivery.proofs.OwedLaws.{delivery-set, lacking-set, signing-set}
-use Rattle.delivery.proofs.PassLaws.{among, bearing-fits, bearing-found, counted_next, every_first, nobody-allowed, only-among, pass-next, says-allowed, says-among}
-use Rattle.delivery.proofs.PlaceLaws.{place-high, place-nobody, place-outside, place-there}
+use Rattle.delivery.proofs.OwedLaws.{with-nobody, with-at, delivery-set, lacking-set, signing-set}
+use Rattle.delivery.proofs.PassLaws.{joined, alone, allows-low, allows-nothing, allows-every, allows-only, nothing_before, every-nobody, bearing-fits, bearing-found, every_first, pass-next}
+use Rattle.delivery.proofs.PlaceLaws.{index-nobody, index-outside, index-there, index-high, place-high, place-nobody, place-outside, place-there}
 use Rattle.delivery.proofs.RoundLaws.{identifier-at, identifier-none, next-at, next-stays}
-use Rattle.delivery.proofs.SetLaws.{count_set, in-index, in-outside, minus-without, ones-all, ones-count, or-union, or-with, set-cong, set-leave, set-none, set-take, shift_one, union-sets, with_none, xor-minus}
+use Rattle.delivery.proofs.SetLaws.{in-unnumbered, with-unnumbered, or-shifted, ones-masked, ones-every, count_set, in-index, in-outside, minus-without, ones-all, ones-count, or-union, or-with, set-cong, set-leave, set-none, set-take, shift_one, union-sets, with_none, xor-minus}
 use Rattle.delivery.proofs.TestLaws.{and-no-left, and-no-right, and_in, or_left, or_no, or_right}
 use Rattle.signer.proofs.ConditionalLaws.{if-false, if-true}
 use Rattle.signer.proofs.FromOneLaws.{nth-any, nth-index, nth-none, set_nth-index, set_nth-none, within-high, within-out, within_low}
 
-pub ruleset rules_acceptance_accepts_ballot = (reads-bears, ballot-sent, ballot-unsent, ballot-value)
+pub ruleset rules_poll_poll_accepts_ballot = (reads-bears, ballot-sent, ballot-unsent, ballot-value)
 
-pub ruleset rules_acceptance_accepts_opening = (says-entry, opening-sent, opening-unsent)
+pub ruleset rules_poll_poll_accepts_opening = (says-entry, opening-sent, opening-unsent)
 
-pub ruleset rules_acceptance_allows = (value-says, says-low, says_none, allowed-none, allowed-blank, among, says-among, only-among, counted_next, nobody-allowed, every_first, pass-next, says-allowed)
+pub ruleset rules_poll_poll_allows = (says-low, allowed-blank)
 
-pub ruleset rules_acceptance_ballots = (set-cong, union-sets, backs-value, some-unopened, some-opened-or, bearing-fits)
+pub ruleset rules_poll_poll_allowance = (nothing_before, every-nobody, every_first, pass-next)
 
-pub ruleset rules_acceptance_ballots_for = (set-cong, set-none, backs-value, ballot-sent, ballot-unopened)
+pub ruleset rules_poll_poll_ballots = (joined, alone)
 
-pub ruleset rules_acceptance_bearing = (set-none, backs-nothing, bearing-found)
+pub ruleset rules_poll_poll_ballots_for = (set-cong, set-none, backs-value, ballot-sent, ballot-unopened)
 
-pub ruleset rules_acceptance_count_bearing = (count_set)
+pub ruleset rules_poll_poll_bearing = (set-none, backs-nothing, bearing-found)
 
-pub ruleset rules_acceptance_opened = (if-true, if-false, and_in, and-no-left, and-no-right, or_left, or_right, or_no)
+pub ruleset rules_poll_poll_count_bearing = (count_set)
 
-pub ruleset rules_acceptance_settled = (if-true, if-false, and_in, and-no-left)
+pub ruleset rules_allowance_allowance_settled = (if-true, if-false, and_in, and-no-left)
 
-pub ruleset rules_acceptance_speakers = (set-take, set-leave)
+pub ruleset rules_allowance_allowance_allows = (allows-low, allows-nothing, allows-every, allows-only)
 
-pub ruleset rules_delivered_delivered_allowed = (says-entry)
+pub ruleset rules_poll_poll_speakers = (set-take, set-leave)
 
-pub ruleset rules_delivered_delivered_deliver = (set_nth-index, place-high, deliver-new, deliver-there, stored-nowhere)
+pub ruleset rules_poll_poll_allowed = (says-entry)
 
-pub ruleset rules_owed_copies_receivers = (nth-none, nth-index, within_low, within-high, within-out)
+pub ruleset rules_delivered_delivered_deliver = (deliver-none, deliver-at, deliver-taken, index-high)
 
-pub ruleset rules_owed_copies_with_receivers = (set_nth-none, set_nth-index, within_low, within-high, within-out)
+pub ruleset rules_owed_owed_record_delivery = (delivery-set)
 
-pub ruleset rules_owed_owed_after_delivery = (delivery-set)
+pub ruleset rules_owed_owed_record_signing = (signing-set)
 
-pub ruleset rules_owed_owed_after_signing = (signing-set)
-
-pub ruleset rules_owed_owed_copies = (nth-none, within-high, within_low, within-out, nth-any)
-
-pub ruleset rules_owed_owed_with_copies = (set_nth-none, set_nth-index, within-high, within_low, within-out)
+pub ruleset rules_owed_owed_set_receivers = (with-nobody, with-at, within-high, within_low)
 
 pub ruleset rules_owed_lacking = (lacking-set)
 
@@ -54,18 +50,18 @@ pub ruleset rules_round_round_identifier = (identifier-at, identifier-none, with
 
 pub ruleset rules_round_round_next = (next-at, next-stays)
 
-pub ruleset rules_set_count = (count-le, shift_one, ones-count, ones-all)
+pub ruleset rules_set_boardset_count = (count-le, ones-masked, ones-every, shift_one)
 
-pub ruleset rules_set_has = (within_low, within-high, within-out, in-index, in-outside)
+pub ruleset rules_set_boardset_contains = (within_low, within-high, in-index, in-unnumbered)
 
-pub ruleset rules_set_minus = (xor-minus)
+pub ruleset rules_set_boardset_minus = (xor-minus)
 
-pub ruleset rules_set_union = (or-union)
+pub ruleset rules_set_boardset_union = (or-union)
 
-pub ruleset rules_set_with = (within_low, within-high, within-out, shift_one, or-with, with_none)
+pub ruleset rules_set_boardset_insert = (within_low, within-high, with-unnumbered, or-shifted)
 
-pub ruleset rules_set_without = (minus-without)
+pub ruleset rules_set_boardset_remove = (minus-without)
 
-pub ruleset rules_store_entry = (nth-index, place-high, heard-nowhere)
+pub ruleset rules_delivered_delivered_entry = (heard-none, heard-at, index-high)
 
-pub ruleset rules_store_place = (within_low, place-nobody, place-outside, place-there)
+pub ruleset rules_delivered_delivered_index = (index-nobody, index-outside, index-there, within_low)

@@ -25,6 +25,7 @@ use lib.Dec.{eqb}
 use lib.Arith.{digits_lt}
 use lib.Pow.{pow_pos, pow_mono, pow-lt, shl_exact, high, low, field, mod-mod-pow, mod-pow-add}
 use lib.Bits.{
+  and_mask,
   bit_and,
   bit_or,
   bit_xor,
@@ -41,7 +42,9 @@ use lib.Bits.{
 }
 use lib.Count.{ones, ones_cat}
 use Rattle.std.specs.Prelude.{if◌then◌else◌}
+use Rattle.signer.specs.FromOne.{is_within}
 use Rattle.signer.proofs.ConditionalLaws.{if-true, if-false}
+use Rattle.signer.proofs.FromOneLaws.{within_low, within-high, within-out}
 use Rattle.delivery.specs.Tests.{◌and◌, ◌or◌, neg}
 use Rattle.delivery.specs.Counting.{plus, count_in}
 use Rattle.delivery.specs.Sets.{in_set, set_of, bits, with_board, without_board, union, minus}
@@ -410,6 +413,29 @@ minus-without m k =
     (λ (i : ℕ). in_set m i and neg (eqb i k))
     (λ j s t.
     ap (λ (b : Bool). in_set m j and neg b) (in-with 0 k j s t ∙ ap (λ (b : Bool). b or eqb j k) (in-none j)))
+
+-- for numbers that have a bit and for others
+pub in-unnumbered : (m k : ℕ) → m < 2 ^ bits → is_within bits k ≡ false → in_set m k ≡ false
+in-unnumbered m k l h = in-outside bits m k l (within-out bits k h)
+
+pub with-unnumbered : (m k : ℕ) → m < 2 ^ bits → is_within bits k ≡ false → with_board m k ≡ m
+with-unnumbered m k l h = with_none m k l (within-out bits k h)
+
+pub or-shifted : (m k : ℕ) → m < 2 ^ bits → is_within bits k ≡ true
+    → bit_or m (1 * 2 ^ (k - 1) % 2 ^ bits) ≡ with_board m k
+or-shifted m k l h =
+    let low : 1 ≤ k = within_low bits k h in
+    let high : k ≤ bits = within-high bits k h in
+    let back : suc (k - 1) ≡ k = omega arith in
+    ap (bit_or m) (shift_one (k - 1) (omega arith)) ∙ or-with m (k - 1) l (omega arith) ∙ ap (with_board m) back
+
+-- the bits of boards 1 to n, counted
+pub ones-masked : (m n : ℕ) → n < bits → ones (bit_and m (1 * 2 ^ n % 2 ^ bits - 1)) ≡ count_in n (in_set m)
+ones-masked m n h =
+    ap (λ (x : ℕ). ones (bit_and m (x - 1))) (shift_one n h) ∙ ap ones (and_mask m n) ∙ ones-count n m
+
+pub ones-every : (m n : ℕ) → m < 2 ^ bits → bits ≤ n → ones m ≡ count_in n (in_set m)
+ones-every m n l h = ones-all bits n m l h
 
 -- a set of 1 to k with the next board
 pub with-next : (k : ℕ) (p : ℕ → Bool) → k < bits → p (suc k) ≡ true → with_board (set_of k p) (suc k) ≡ set_of (suc k) p

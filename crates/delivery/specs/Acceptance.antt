@@ -7,7 +7,14 @@ use Rattle.delivery.specs.Limits.{Limits}
 use Rattle.delivery.specs.Bus.{quorum, overlap}
 use Rattle.delivery.specs.Rounds.{coordinator, identifier_of}
 use Rattle.delivery.specs.Delivered.{Store}
+use Rattle.delivery.specs.declared.delivered.Delivered.{Delivered}
 use Rattle.delivery.specs.declared.round.Phase.TheVariants.{Opening, Ballot}
+
+-- a round among n boards, as one board has heard it
+pub record Heard : Type 0 where
+  pub delivered : Delivered
+  pub n : ℕ
+  pub round : ℕ
 
 -- the entry x stands for a value or the blank, and that passes
 unfoldable pub says : ℕ → (ℕ → Bool) → Bool

@@ -1,5 +1,5 @@
 -- Document 01, "Delivery": what one board has delivered, and one statement more.
-use Rattle.std.specs.Prelude.{ℕ, ◌+◌, ◌-◌, ◌*◌, List, eqb, replicate}
+use Rattle.std.specs.Prelude.{ℕ, zero, suc, ◌+◌, ◌-◌, ◌*◌, List, eqb, replicate, Option, None, Some}
 use Rattle.signer.specs.FromOne.{nth, set_nth}
 use Rattle.std.specs.Prelude.{if◌then◌else◌}
 use Rattle.signer.specs.Log.{is_identifier, entry_of}
@@ -17,6 +17,15 @@ Store = ℕ → ℕ → ℕ
 -- place 0 stands for, where s is no board or i no identifier
 unfoldable pub place_of : Limits → ℕ → ℕ → ℕ
 place_of L s i = if is_board L s and is_identifier L.identifiers i then (s - 1) * L.identifiers + i else 0
+
+-- the index of a place, since places are numbered from 1; place 0 has none
+unfoldable pub index_at : ℕ → Option ℕ
+index_at zero = None
+index_at (suc i) = Some i
+
+-- so the index of that entry
+unfoldable pub index_of : Limits → ℕ → ℕ → Option ℕ
+index_of L s i = index_at (place_of L s i)
 
 -- the store of a list of entries
 unfoldable pub heard_in : Limits → List ℕ → Store

@@ -5,10 +5,7 @@ ghost use Rattle.delivery.specs.Bus.{faults, quorum, overlap};
 pub fn faults(n: u8) -> u8
     ensures { result ≡ faults n }
 {
-    if n == 0 {
-        return 0;
-    }
-    (n - 1) / 2
+    n.saturating_sub(1) / 2
 }
 
 // q: how many boards make a quorum.

@@ -1,20 +1,23 @@
 ghost use Rattle.std.specs.Prelude.{◌≡◌};
 ghost use Rattle.delivery.specs.Limits.{limits};
 ghost use Rattle.delivery.specs.Bus.{is_board};
-ghost use Rattle.delivery.specs.Delivered.{nothing_delivered, heard, deliver};
+ghost use Rattle.delivery.specs.Delivered.{nothing_delivered, index_of, heard, deliver};
 
-use crate::store;
 use signer::{Identifier, Log, from_one};
 
-// What one board has delivered: for each speaker, what it said under each identifier.
+// What one board has delivered: a row for each speaker, and in it a place for each identifier. Entry 0:
+// nothing; entry v + 1: the value v.
 #[derive(Clone, Copy)]
 pub struct Delivered {
-    pub entries: [u32; store::PLACES],
+    pub entries: [u32; Delivered::PLACES],
 }
 
 impl Delivered {
     // The highest number of a board; the lowest is 1.
     pub const BOARDS: u8 = 7;
+
+    // How many places there are.
+    pub const PLACES: usize = Delivered::BOARDS as usize * Identifier::LAST as usize;
 
     // Whether this is a board's number at all: 1 to the highest.
     pub fn is_board(k: u8) -> bool
@@ -28,32 +31,43 @@ impl Delivered {
         ensures { result ≡ nothing_delivered limits }
     {
         Delivered {
-            entries: [0u32; store::PLACES],
+            entries: [0u32; Delivered::PLACES],
         }
+    }
+
+    // Where the entry of what a speaker said under an identifier stands; nowhere where no board can say it.
+    #[tactic(auto, using(crate::proofs::Rules::rules_delivered_delivered_index))]
+    pub fn index(speaker: u8, id: Identifier) -> Option<usize>
+        ensures { result ≡ index_of limits speaker id.0 }
+    {
+        if !Delivered::is_board(speaker) || !id.in_range() {
+            return None;
+        }
+        Some((speaker as usize - 1) * Identifier::LAST as usize + (id.0 as usize - 1))
     }
 
     // What a speaker said under an identifier, as a log's entry.
-    pub fn entry(self, speaker: u8, id: Identifier) -> u32
-        ensures { result ≡ heard limits self speaker id.0 }
+    #[tactic(auto, using(crate::proofs::Rules::rules_delivered_delivered_entry))]
+    pub fn entry(&self, speaker: u8, id: Identifier) -> u32
+        ensures { result ≡ heard limits self.now speaker id.0 }
     {
-        store::entry(&self.entries, speaker, id)
+        match Delivered::index(speaker, id) {
+            Some(i) => self.entries[i],
+            None => 0,
+        }
     }
 
-    // With one statement more. What stands there already is kept, and a statement that no board
+    // Takes in one statement more. What stands there already is kept, and a statement that no board
     // can make is left out.
     #[tactic(auto, using(crate::proofs::Rules::rules_delivered_delivered_deliver))]
-    pub fn deliver(self, speaker: u8, id: Identifier, value: u16) -> Delivered
-        ensures { result ≡ deliver limits self speaker id.0 value }
+    pub fn deliver(&mut self, speaker: u8, id: Identifier, value: u16)
+        ensures { self.new ≡ deliver limits self.old speaker id.0 value }
     {
-        if self.entry(speaker, id) != 0 {
-            return self;
+        let Some(i) = Delivered::index(speaker, id) else {
+            return;
+        };
+        if self.entries[i] == 0 {
+            self.entries[i] = Log::entry_of(value);
         }
-        let place = store::place(speaker, id);
-        if place == 0 {
-            return self;
-        }
-        let mut entries = self.entries;
-        entries[place - 1] = Log::entry_of(value);
-        Delivered { entries }
     }
 }

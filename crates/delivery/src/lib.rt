@@ -2,14 +2,16 @@
 // knows a board's turns or the bench.
 #![tactic(auto)]
 
-pub mod acceptance;
+mod allowance;
 pub mod bus;
 mod delivered;
 mod owed;
+mod poll;
 mod round;
-pub mod set;
-pub mod store;
+mod set;
 
 pub use delivered::Delivered;
 pub use owed::{Copies, Owed};
+pub use poll::Poll;
 pub use round::{Phase, Round};
+pub use set::BoardSet;

@@ -5,11 +5,11 @@ ghost use Rattle.delivery.specs.Rounds.{is_round, coordinator, identifier_of, ne
 use signer::{Identifier, from_one};
 
 // The number of a round of the vote. It is no identifier: `identifier` is the one way from here to there.
-#[derive(Clone, Copy)]
+#[derive(Clone, Copy, Debug, PartialEq, Eq, PartialOrd, Ord)]
 pub struct Round(pub u8);
 
 // The two statements that a round knows (PHASE1 and PHASE2 in the published vote).
-#[derive(Clone, Copy)]
+#[derive(Clone, Copy, Debug, PartialEq, Eq)]
 pub enum Phase {
     Opening,
     Ballot,

@@ -3,66 +3,113 @@ ghost use Rattle.delivery.specs.Counting.{count_in};
 ghost use Rattle.delivery.specs.Sets.{in_set, with_board, without_board, union, minus};
 
 use signer::from_one;
+use std::marker::Model;
 
-// Sets of boards, each a mask: bit k - 1 stands for board k.
+// A set of boards, as a mask: bit k - 1 stands for board k. In contracts it is the mask's number.
+#[derive(Clone, Copy, Debug, PartialEq, Eq)]
+pub struct BoardSet {
+    mask: u16,
+}
 
-// How many numbers a mask has a bit for.
-const BITS: u8 = 16;
+impl Model for BoardSet {
+    ghost use Rattle.std.specs.Prelude.{ℕ, ◌<◌, ◌^◌};
+    ghost use Rattle.delivery.specs.Sets.{bits};
 
-// Whether board k is in the set.
-#[tactic(auto, using(crate::proofs::Rules::rules_set_has))]
-pub fn has(set: u16, k: u8) -> bool
-    ensures { result ≡ in_set set k }
-{
-    if !from_one::within(k, BITS) {
-        return false;
+    ghost Value = { ℕ };
+
+    ghost view = { λ s. s.mask };
+
+    ghost invariant = { λ s. s.mask < 2 ^ bits };
+
+    ghost inverse = { λ m. record { mask = m } };
+}
+
+// Every mask is a set's.
+impl From<u16> for BoardSet {
+    ghost from_gives = { λ bits set. set ≡ bits };
+
+    fn from(bits: u16) -> BoardSet {
+        BoardSet { mask: bits }
     }
-    (set >> (k - 1)) % 2 == 1
 }
 
-// The set with board k in it.
-#[tactic(auto, using(crate::proofs::Rules::rules_set_with))]
-pub fn with(set: u16, k: u8) -> u16
-    ensures { result ≡ with_board set k }
-{
-    if !from_one::within(k, BITS) {
-        return set;
+impl BoardSet {
+    // How many numbers a set has a bit for.
+    const BITS: u8 = 16;
+
+    pub fn empty() -> BoardSet
+        ensures { result ≡ 0 }
+    {
+        BoardSet { mask: 0 }
     }
-    set | (1u16 << (k - 1))
-}
 
-// The boards of either set.
-#[tactic(auto, using(crate::proofs::Rules::rules_set_union))]
-pub fn union(a: u16, b: u16) -> u16
-    ensures { result ≡ union a b }
-{
-    a | b
-}
-
-// The boards of the first set that are not in the second.
-#[tactic(auto, using(crate::proofs::Rules::rules_set_minus))]
-pub fn minus(a: u16, b: u16) -> u16
-    ensures { result ≡ minus a b }
-{
-    a ^ (a & b)
-}
-
-// The set without board k.
-#[tactic(auto, using(crate::proofs::Rules::rules_set_without))]
-pub fn without(set: u16, k: u8) -> u16
-    ensures { result ≡ without_board set k }
-{
-    minus(set, with(0, k))
-}
-
-// How many of boards 1 to n are in the set.
-#[tactic(auto, using(crate::proofs::Rules::rules_set_count))]
-pub fn count(set: u16, n: u8) -> u8
-    ensures { result ≡ count_in n (in_set set) }
-{
-    if n >= BITS {
-        return u16::count_ones(set) as u8;
+    // The mask.
+    pub fn bits(self) -> u16
+        ensures { result ≡ self }
+    {
+        self.mask
     }
-    let low = (1u16 << n) - 1;
-    u16::count_ones(set & low) as u8
+
+    // Whether board k is in the set.
+    #[tactic(auto, using(crate::proofs::Rules::rules_set_boardset_contains))]
+    pub fn contains(self, k: u8) -> bool
+        ensures { result ≡ in_set self k }
+    {
+        if !from_one::within(k, BoardSet::BITS) {
+            return false;
+        }
+        (self.mask >> (k - 1)) % 2 == 1
+    }
+
+    // Puts board k in.
+    #[tactic(auto, using(crate::proofs::Rules::rules_set_boardset_insert))]
+    pub fn insert(&mut self, k: u8)
+        ensures { self.new ≡ with_board self.old k }
+    {
+        if from_one::within(k, BoardSet::BITS) {
+            self.mask |= 1u16 << (k - 1);
+        }
+    }
+
+    // Takes board k out.
+    #[tactic(auto, using(crate::proofs::Rules::rules_set_boardset_remove))]
+    pub fn remove(&mut self, k: u8)
+        ensures { self.new ≡ without_board self.old k }
+    {
+        let mut alone = BoardSet::empty();
+        alone.insert(k);
+        *self = self.minus(alone);
+    }
+
+    // The boards of either set.
+    #[tactic(auto, using(crate::proofs::Rules::rules_set_boardset_union))]
+    pub fn union(self, other: BoardSet) -> BoardSet
+        ensures { result ≡ union self other }
+    {
+        BoardSet {
+            mask: self.mask | other.mask,
+        }
+    }
+
+    // The boards of this set that are not in the other.
+    #[tactic(auto, using(crate::proofs::Rules::rules_set_boardset_minus))]
+    pub fn minus(self, other: BoardSet) -> BoardSet
+        ensures { result ≡ minus self other }
+    {
+        BoardSet {
+            mask: self.mask ^ (self.mask & other.mask),
+        }
+    }
+
+    // How many of boards 1 to n are in the set.
+    #[tactic(auto, using(crate::proofs::Rules::rules_set_boardset_count))]
+    pub fn count(self, n: u8) -> u8
+        ensures { result ≡ count_in n (in_set self) }
+    {
+        if n >= BoardSet::BITS {
+            return self.mask.count_ones() as u8;
+        }
+        let low = (1u16 << n) - 1;
+        (self.mask & low).count_ones() as u8
+    }
 }

@@ -1,5 +1,5 @@
 ghost use Rattle.std.specs.Prelude.{◌≡◌};
-ghost use Rattle.signer.specs.FromOne.{is_within};
+ghost use Rattle.signer.specs.FromOne.{is_within, nth, set_nth};
 
 // Whether k is a number from 1 to the limit.
 #[tactic(auto, unfolding(crate::specs::FromOne::is_within))]
@@ -7,4 +7,25 @@ pub fn within(k: u8, limit: u8) -> bool
     ensures { result ≡ is_within limit k }
 {
     (1..=limit).contains(&k)
+}
+
+// Element k of a list, or `none` where there is no element k.
+#[tactic(auto, unfolding(crate::specs::FromOne::nth))]
+pub fn nth<T: Copy>(list: &[T], k: u8, none: T) -> T
+    ensures { result ≡ nth list.now k none }
+{
+    if k == 0 || k as usize > list.len() {
+        return none;
+    }
+    list[k as usize - 1]
+}
+
+// Puts this in as element k; a list without an element k stays as it is.
+#[tactic(auto, unfolding(crate::specs::FromOne::set_nth))]
+pub fn set_nth<T: Copy>(list: &mut [T], k: u8, element: T)
+    ensures { list.new ≡ set_nth list.old k element }
+{
+    if k > 0 && k as usize <= list.len() {
+        list[k as usize - 1] = element;
+    }
 }

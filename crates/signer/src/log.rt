@@ -1,6 +1,7 @@
 ghost use Rattle.std.specs.Prelude.{◌≡◌};
 ghost use Rattle.signer.specs.Log.{identifiers, entry_of, value_of, empty_log, entry_at, with_entry};
 
+use crate::from_one;
 use crate::identifier::Identifier;
 
 // What one speaker said under each identifier. Entry 0: nothing; entry v + 1: the value v.
@@ -44,23 +45,18 @@ impl Log {
     }
 
     // The entry under an identifier; nothing stands under a number that is none.
-    #[tactic(auto, unfolding(crate::specs::Log::entry_at, crate::specs::FromOne::nth, crate::specs::FromOne::is_within))]
+    #[tactic(auto, unfolding(crate::specs::Log::entry_at))]
     pub fn entry(&self, id: Identifier) -> u32
         ensures { result ≡ entry_at self.now id.0 }
     {
-        if !id.in_range() {
-            return 0;
-        }
-        self.entries[id.0 as usize - 1]
+        from_one::nth(&self.entries, id.0, 0)
     }
 
     // Puts this entry under an identifier; a number that is none takes nothing.
-    #[tactic(auto, unfolding(crate::specs::Log::with_entry, crate::specs::FromOne::set_nth, crate::specs::FromOne::is_within))]
+    #[tactic(auto, unfolding(crate::specs::Log::with_entry))]
     pub fn set_entry(&mut self, id: Identifier, entry: u32)
         ensures { self.new ≡ with_entry self.old id.0 entry }
     {
-        if id.in_range() {
-            self.entries[id.0 as usize - 1] = entry;
-        }
+        from_one::set_nth(&mut self.entries, id.0, entry);
     }
 }

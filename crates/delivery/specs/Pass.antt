@@ -1,0 +1,13 @@
+-- What the program carries over the rounds in place of the test which values are allowed. No open call is told by
+-- it, so a reader need not believe it.
+use Rattle.std.specs.Prelude.{ℕ, Bool, false, eqb}
+use Rattle.signer.specs.Log.{entry_of}
+use Rattle.delivery.specs.Tests.{◌and◌, neg}
+use Rattle.delivery.specs.declared.allowance.Allowance.{Allowance}
+use Rattle.delivery.specs.declared.allowance.Allowance.TheVariants.{Nothing, Every, Only}
+
+-- the value w is allowed
+unfoldable pub lets : Allowance → ℕ → Bool
+lets Nothing w = false
+lets Every w = neg (eqb w 0)
+lets (Only x) w = neg (eqb w 0) and eqb x (entry_of w)

@@ -1,0 +1,62 @@
+ghost use Rattle.std.specs.Prelude.{ℕ, ◌+◌, ◌-◌, min, ◌≡◌, leb};
+ghost use Rattle.std.specs.Prelude.{if◌then◌else◌};
+ghost use Rattle.delivery.specs.Tests.{◌and◌};
+ghost use Rattle.delivery.specs.Bus.{quorum, overlap};
+ghost use Rattle.delivery.specs.Acceptance.{says};
+ghost use Rattle.delivery.specs.Pass.{lets};
+ghost use Rattle.delivery.specs.declared.allowance.Allowance.TheVariants.{Nothing, Only};
+
+use crate::bus;
+use signer::Log;
+
+// What is allowed in a round: no value, every value, or only the value of this entry. The blank never is.
+#[derive(Clone, Copy, Debug, PartialEq, Eq)]
+pub(crate) enum Allowance {
+    Nothing,
+    Every,
+    Only(u32),
+}
+
+impl Allowance {
+    // Whether an entry is that of a value that is allowed.
+    #[tactic(auto, using(crate::proofs::Rules::rules_allowance_allowance_allows))]
+    pub(crate) fn allows(self, entry: u32) -> bool
+        ensures { result ≡ says entry (lets self) }
+    {
+        // entry 0 says nothing
+        if entry <= Log::entry_of(Log::BLANK) {
+            return false;
+        }
+        match self {
+            Allowance::Nothing => false,
+            Allowance::Every => true,
+            Allowance::Only(only) => entry == only,
+        }
+    }
+
+    // The entry that the coordinator sent as its opening where its value is allowed, else 0.
+    pub(crate) fn opened(self, sent: u32) -> u32
+        ensures { result ≡ (if says sent (lets self) then sent else 0) }
+    {
+        if self.allows(sent) { sent } else { 0 }
+    }
+
+    // What is allowed after a round of n boards with so many blank ballots and so many for the opening's value.
+    #[tactic(auto, using(crate::proofs::Rules::rules_allowance_allowance_settled))]
+    pub(crate) fn settled(self, n: u8, opening: u32, blank: u8, backing: u8) -> Allowance
+        ensures { result ≡ (if leb (quorum n) (blank + min backing (overlap n - 1)) then self else (if leb (quorum n) (blank + backing) and leb (overlap n) backing then Only opening else Nothing)) }
+    {
+        let q = bus::quorum(n) as u16;
+        let e = bus::overlap(n);
+        // of the ballots for the opening's value, those that can stand among q of which fewer than e bear it
+        let spare = backing.min(e.saturating_sub(1));
+        if q <= blank as u16 + spare as u16 {
+            return self;
+        }
+        if q > blank as u16 + backing as u16 {
+            return Allowance::Nothing;
+        }
+        // here backing is above the spare ones, so it is at least e
+        Allowance::Only(opening)
+    }
+}

@@ -1,0 +1,185 @@
+ghost use Rattle.std.specs.Prelude.{ℕ, min, ◌≡◌, eqb};
+ghost use Rattle.delivery.specs.Counting.{count_in};
+ghost use Rattle.delivery.specs.Limits.{limits};
+ghost use Rattle.delivery.specs.Sets.{set_of};
+ghost use Rattle.delivery.specs.Delivered.{heard};
+ghost use Rattle.delivery.specs.Acceptance.{says, opening_entry, backs, allowed, accepts_opening, accepts_ballot, accepts_some};
+ghost use Rattle.delivery.specs.Pass.{lets};
+
+use crate::allowance::Allowance;
+use crate::delivered::Delivered;
+use crate::round::{Phase, Round};
+use crate::set::BoardSet;
+use signer::{Identifier, Log};
+use std::marker::Model;
+
+// A round among n boards, as one board has heard it.
+#[derive(Drop)]
+pub struct Poll<'a> {
+    delivered: &'a Delivered,
+    n: u8,
+    round: Round,
+}
+
+impl<'a> Model for Poll<'a> {
+    ghost use Rattle.delivery.specs.Acceptance.{Heard};
+
+    ghost Value = { Heard };
+
+    ghost view = { λ p. record { delivered = p.delivered.now; n = p.n; round = p.round.0 } };
+}
+
+impl Delivered {
+    // A round among n boards, as this board has heard it.
+    pub fn poll(&self, n: u8, round: Round) -> Poll<'_>
+        ensures { result ≡ record { delivered = self.now; n = n; round = round.0 } }
+    {
+        Poll {
+            delivered: self,
+            n,
+            round,
+        }
+    }
+}
+
+impl<'a> Poll<'a> {
+    // The boards of 1 to n with this entry under an identifier.
+    #[tactic(auto, using(crate::proofs::Rules::rules_poll_poll_speakers), unfolding(crate::specs::Sets::set_of))]
+    fn speakers(&self, id: Identifier, entry: u32) -> BoardSet
+        ensures { result ≡ set_of (min self.now.n limits.boards) (λ (s : ℕ). eqb (heard limits self.now.delivered s id.0) entry) }
+    {
+        // no number above the boards that there can be has said anything
+        let m = self.n.min(Delivered::BOARDS);
+        let mut speakers = BoardSet::empty();
+        for k in 0..m {
+            if self.delivered.entry(k + 1, id) == entry {
+                speakers.insert(k + 1);
+            }
+        }
+        speakers
+    }
+
+    // The boards of 1 to n whose ballot of the round has this entry; no ballot has entry 0.
+    #[tactic(auto, using(crate::proofs::Rules::rules_poll_poll_bearing))]
+    fn bearing(&self, entry: u32) -> BoardSet
+        ensures { result ≡ set_of self.now.n (backs limits (heard limits self.now.delivered) self.now.round entry) }
+    {
+        if entry == 0 {
+            return BoardSet::empty();
+        }
+        self.speakers(self.round.identifier(Phase::Ballot), entry)
+    }
+
+    // How many boards of 1 to n have a ballot of the round with this entry, accepted or not.
+    #[tactic(auto, using(crate::proofs::Rules::rules_poll_poll_count_bearing))]
+    pub fn count_bearing(&self, entry: u32) -> u8
+        ensures { result ≡ count_in self.now.n (backs limits (heard limits self.now.delivered) self.now.round entry) }
+    {
+        self.bearing(entry).count(self.n)
+    }
+
+    // The entry of the opening that the round's coordinator sent.
+    pub fn opening(&self) -> u32
+        ensures { result ≡ opening_entry limits self.now.n (heard limits self.now.delivered) self.now.round }
+    {
+        let coordinator = self.round.coordinator(self.n);
+        self.delivered
+            .entry(coordinator, self.round.identifier(Phase::Opening))
+    }
+
+    // What is allowed in the round: one pass over the rounds before it.
+    #[tactic(auto, using(crate::proofs::Rules::rules_poll_poll_allowance))]
+    fn allowance(&self) -> Allowance
+        ensures { lets result ≡ allowed limits self.now.n (heard limits self.now.delivered) self.now.round }
+    {
+        if self.round.0 == 0 {
+            return Allowance::Nothing;
+        }
+        // of no boards q is 0: no ballot is asked for
+        if self.n == 0 {
+            return Allowance::Every;
+        }
+        let mut allowance = Allowance::Every;
+        for r in 1..self.round.0 {
+            let earlier = self.delivered.poll(self.n, Round(r));
+            let opening = allowance.opened(earlier.opening());
+            let blank = earlier.count_bearing(Log::entry_of(Log::BLANK));
+            let backing = earlier.count_bearing(opening);
+            allowance = allowance.settled(self.n, opening, blank, backing);
+        }
+        allowance
+    }
+
+    // Whether an entry is that of a value that is allowed in the round.
+    #[tactic(auto, using(crate::proofs::Rules::rules_poll_poll_allows))]
+    fn allows(&self, entry: u32) -> bool
+        ensures { result ≡ says entry (allowed limits self.now.n (heard limits self.now.delivered) self.now.round) }
+    {
+        // then there is no need of the pass
+        if entry <= Log::entry_of(Log::BLANK) {
+            return false;
+        }
+        self.allowance().allows(entry)
+    }
+
+    // Whether a value is allowed in the round.
+    #[tactic(auto, using(crate::proofs::Rules::rules_poll_poll_allowed))]
+    pub fn allowed(&self, value: u16) -> bool
+        ensures { result ≡ allowed limits self.now.n (heard limits self.now.delivered) self.now.round value }
+    {
+        self.allows(Log::entry_of(value))
+    }
+
+    // Whether the opening of the round with a value is accepted.
+    #[tactic(auto, using(crate::proofs::Rules::rules_poll_poll_accepts_opening))]
+    pub fn accepts_opening(&self, value: u16) -> bool
+        ensures { result ≡ accepts_opening limits self.now.n (heard limits self.now.delivered) self.now.round value }
+    {
+        let entry = self.opening();
+        if entry != Log::entry_of(value) {
+            return false;
+        }
+        self.allows(entry)
+    }
+
+    // Whether a speaker's ballot of the round with a value is accepted.
+    #[tactic(auto, using(crate::proofs::Rules::rules_poll_poll_accepts_ballot))]
+    pub fn accepts_ballot(&self, speaker: u8, value: u16) -> bool
+        ensures { result ≡ accepts_ballot limits self.now.n (heard limits self.now.delivered) self.now.round speaker value }
+    {
+        let entry = self
+            .delivered
+            .entry(speaker, self.round.identifier(Phase::Ballot));
+        if entry != Log::entry_of(value) {
+            return false;
+        }
+        if value == Log::BLANK {
+            return true;
+        }
+        self.accepts_opening(value)
+    }
+
+    // The boards of 1 to n whose accepted ballots of the round bear a value.
+    #[tactic(auto, using(crate::proofs::Rules::rules_poll_poll_ballots_for))]
+    pub fn ballots_for(&self, value: u16) -> BoardSet
+        ensures { result ≡ set_of self.now.n (λ (s : ℕ). accepts_ballot limits self.now.n (heard limits self.now.delivered) self.now.round s value) }
+    {
+        if value != Log::BLANK && !self.accepts_opening(value) {
+            return BoardSet::empty();
+        }
+        self.bearing(Log::entry_of(value))
+    }
+
+    // The boards of 1 to n with an accepted ballot of the round, whatever it bears.
+    #[tactic(auto, using(crate::proofs::Rules::rules_poll_poll_ballots))]
+    pub fn ballots(&self) -> BoardSet
+        ensures { result ≡ set_of self.now.n (accepts_some limits self.now.n (heard limits self.now.delivered) self.now.round) }
+    {
+        let blank = self.bearing(Log::entry_of(Log::BLANK));
+        let opening = self.opening();
+        if !self.allows(opening) {
+            return blank;
+        }
+        blank.union(self.bearing(opening))
+    }
+}
