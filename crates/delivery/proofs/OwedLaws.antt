@@ -68,6 +68,11 @@ module _ (L : Limits) (o : Owed) (s : ℕ) (w : length o.speakers ≡ L.boards) 
       (set_nth-index o.speakers s _ (within_low L.boards s h)
       ∙ ap (λ (d : Copies). set o.speakers (s - 1) (with_receivers_at d i m)) (copies-at c h))
 
+-- nobody is owed a copy of what is said under any identifier where no copy is
+pub nobody-at : (L : Limits) (i : ℕ) → receivers_at (no_copies L) i ≡ 0
+unfolding receivers_at no_copies
+nobody-at L i = nth-replicate L.identifiers i 0
+
 -- where nothing is owed
 copies-nothing : (L : Limits) (s : ℕ) → copies_of L (nothing_owed L) s ≡ no_copies L
 unfolding nothing_owed copies_of
@@ -82,9 +87,8 @@ nothing-whole L =
     }
 
 pub owed-nothing : (L : Limits) (s i : ℕ) → receivers L (nothing_owed L) s i ≡ 0
-unfolding receivers receivers_at no_copies
-owed-nothing L s i =
-    ap (λ (c : Copies). receivers_at c i) (copies-nothing L s) ∙ nth-replicate L.identifiers i 0
+unfolding receivers
+owed-nothing L s i = ap (λ (c : Copies). receivers_at c i) (copies-nothing L s) ∙ nobody-at L i
 
 -- one set replaced
 module _ (L : Limits) (o : Owed) (s i m : ℕ) where
@@ -173,7 +177,7 @@ module _ (L : Limits) (o : Owed) (j s i sound have : ℕ) where
   delivery-there = with-there L o s i _
 
 -- the sets in these definitions, made of sets
-pub lacking-set : (s sound have : ℕ) → minus (without_board sound s) have ≡ set_of bits (lacks sound have s)
+lacking-set : (s sound have : ℕ) → minus (without_board sound s) have ≡ set_of bits (lacks sound have s)
 unfolding minus lacks
 lacking-set s sound have =
     set-cong
@@ -185,27 +189,26 @@ lacking-set s sound have =
     ∙ and_assoc (in_set sound k) (neg (eqb k s)) (neg (in_set have k)))
 
 pub signing-set : (m s sound have : ℕ)
-    → union m (set_of bits (lacks sound have s)) ≡ set_of bits (λ (k : ℕ). in_set m k or lacks sound have s k)
+    → union m (minus (without_board sound s) have) ≡ set_of bits (λ (k : ℕ). in_set m k or lacks sound have s k)
 unfolding union
 signing-set m s sound have =
     set-cong
     bits
-    (λ (k : ℕ). in_set m k or in_set (set_of bits (lacks sound have s)) k)
+    (λ (k : ℕ). in_set m k or in_set (minus (without_board sound s) have) k)
     (λ (k : ℕ). in_set m k or lacks sound have s k)
-    (λ k l h. ap (λ (b : Bool). in_set m k or b) (in-set_of-within bits (lacks sound have s) k l h))
+    (λ k l h.
+    ap
+    (λ (b : Bool). in_set m k or b)
+    (ap (λ (x : ℕ). in_set x k) (lacking-set s sound have) ∙ in-set_of-within bits (lacks sound have s) k l h))
 
-pub delivery-set : (m j s sound have : ℕ)
-    → without_board (union m (set_of bits (lacks sound have s))) j
-    ≡ set_of bits (λ (k : ℕ). neg (eqb k j) and (in_set m k or lacks sound have s k))
+pub delivery-set : (j : ℕ) (p : ℕ → Bool)
+    → without_board (set_of bits p) j ≡ set_of bits (λ (k : ℕ). neg (eqb k j) and p k)
 unfolding without_board
-delivery-set m j s sound have =
+delivery-set j p =
     set-cong
     bits
-    (λ (k : ℕ). in_set (union m (set_of bits (lacks sound have s))) k and neg (eqb k j))
-    (λ (k : ℕ). neg (eqb k j) and (in_set m k or lacks sound have s k))
+    (λ (k : ℕ). in_set (set_of bits p) k and neg (eqb k j))
+    (λ (k : ℕ). neg (eqb k j) and p k)
     (λ k l h.
-    and_comm (in_set (union m (set_of bits (lacks sound have s))) k) (neg (eqb k j))
-    ∙ ap
-    (λ (b : Bool). neg (eqb k j) and b)
-    (ap (λ (x : ℕ). in_set x k) (signing-set m s sound have)
-    ∙ in-set_of-within bits (λ (i : ℕ). in_set m i or lacks sound have s i) k l h))
+    and_comm (in_set (set_of bits p) k) (neg (eqb k j))
+    ∙ ap (λ (b : Bool). neg (eqb k j) and b) (in-set_of-within bits p k l h))

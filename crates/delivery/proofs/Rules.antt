@@ -3,11 +3,11 @@ use Rattle.delivery.proofs.AllRoundsLaws.{allowed-blank, allowed-none, ballot-se
 use Rattle.delivery.proofs.CountLaws.{count-le}
 use Rattle.delivery.proofs.DeliveredLaws.{heard-none, heard-at, deliver-none, deliver-at, deliver-taken, deliver-new, deliver-there, heard-nowhere, stored-nowhere}
 use Rattle.delivery.proofs.OneRoundLaws.{backs-nothing, backs-value, reads-bears, says-entry, says-low, says_none, value-says}
-use Rattle.delivery.proofs.OwedLaws.{with-nobody, with-at, delivery-set, lacking-set, signing-set}
+use Rattle.delivery.proofs.OwedLaws.{with-nobody, with-at, delivery-set, signing-set, nobody-at}
 use Rattle.delivery.proofs.PassLaws.{joined, alone, allows-low, allows-nothing, allows-every, allows-only, nothing_before, every-nobody, bearing-fits, bearing-found, every_first, pass-next}
 use Rattle.delivery.proofs.PlaceLaws.{index-nobody, index-outside, index-there, index-high, place-high, place-nobody, place-outside, place-there}
 use Rattle.delivery.proofs.RoundLaws.{identifier-at, identifier-none, next-at, next-stays}
-use Rattle.delivery.proofs.SetLaws.{in-unnumbered, with-unnumbered, or-shifted, ones-masked, ones-every, count_set, in-index, in-outside, minus-without, ones-all, ones-count, or-union, or-with, set-cong, set-leave, set-none, set-take, shift_one, union-sets, with_none, xor-minus}
+use Rattle.delivery.proofs.SetLaws.{in-unnumbered, with-unnumbered, shifted-alone, union-alone, ones-masked, ones-every, count_set, in-index, in-outside, minus-without, ones-all, ones-count, or-union, or-with, set-cong, set-leave, set-none, set-take, shift_one, union-sets, with_none, xor-minus}
 use Rattle.delivery.proofs.TestLaws.{and-no-left, and-no-right, and_in, or_left, or_no, or_right}
 use Rattle.signer.proofs.ConditionalLaws.{if-false, if-true}
 use Rattle.signer.proofs.FromOneLaws.{nth-any, nth-index, nth-none, set_nth-index, set_nth-none, within-high, within-out, within_low}
@@ -40,11 +40,11 @@ pub ruleset rules_delivered_delivered_deliver = (deliver-none, deliver-at, deliv
 
 pub ruleset rules_owed_owed_record_delivery = (delivery-set)
 
-pub ruleset rules_owed_owed_record_signing = (signing-set)
-
 pub ruleset rules_owed_owed_set_receivers = (with-nobody, with-at, within-high, within_low)
 
-pub ruleset rules_owed_lacking = (lacking-set)
+pub ruleset rules_owed_owed_with_lacking = (signing-set)
+
+pub ruleset rules_owed_owed_receivers = (nobody-at, nth-none, nth-index)
 
 pub ruleset rules_round_round_identifier = (identifier-at, identifier-none, within-high, within_low)
 
@@ -58,7 +58,9 @@ pub ruleset rules_set_boardset_minus = (xor-minus)
 
 pub ruleset rules_set_boardset_union = (or-union)
 
-pub ruleset rules_set_boardset_insert = (within_low, within-high, with-unnumbered, or-shifted)
+pub ruleset rules_set_boardset_alone = (within_low, within-high, with-unnumbered, shifted-alone)
+
+pub ruleset rules_set_boardset_insert = (union-alone)
 
 pub ruleset rules_set_boardset_remove = (minus-without)
 

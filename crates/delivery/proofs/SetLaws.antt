@@ -421,13 +421,30 @@ in-unnumbered m k l h = in-outside bits m k l (within-out bits k h)
 pub with-unnumbered : (m k : ℕ) → m < 2 ^ bits → is_within bits k ≡ false → with_board m k ≡ m
 with-unnumbered m k l h = with_none m k l (within-out bits k h)
 
-pub or-shifted : (m k : ℕ) → m < 2 ^ bits → is_within bits k ≡ true
-    → bit_or m (1 * 2 ^ (k - 1) % 2 ^ bits) ≡ with_board m k
-or-shifted m k l h =
+-- a board alone, joined to a set
+pub shifted-alone : (k : ℕ) → is_within bits k ≡ true → 1 * 2 ^ (k - 1) % 2 ^ bits ≡ with_board 0 k
+unfolding with_board ◌or◌
+shifted-alone k h =
     let low : 1 ≤ k = within_low bits k h in
     let high : k ≤ bits = within-high bits k h in
     let back : suc (k - 1) ≡ k = omega arith in
-    ap (bit_or m) (shift_one (k - 1) (omega arith)) ∙ or-with m (k - 1) l (omega arith) ∙ ap (with_board m) back
+    shift_one (k - 1) (omega arith)
+    ∙ set_is
+    bits
+    (2 ^ (k - 1))
+    (λ (j : ℕ). in_set 0 j or eqb j k)
+    (pow-lt {i = k - 1} {j = bits} (omega arith))
+    (λ j s t. in_one (k - 1) j ∙ ap (eqb j) back ∙ ap (λ (b : Bool). b or eqb j k) (sym (in-none j)))
+
+pub union-alone : (m k : ℕ) → union m (with_board 0 k) ≡ with_board m k
+unfolding union with_board ◌or◌
+union-alone m k =
+    set-cong
+    bits
+    (λ (i : ℕ). in_set m i or in_set (with_board 0 k) i)
+    (λ (i : ℕ). in_set m i or eqb i k)
+    (λ j s t.
+    ap (λ (b : Bool). in_set m j or b) (in-with 0 k j s t ∙ ap (λ (b : Bool). b or eqb j k) (in-none j)))
 
 -- the bits of boards 1 to n, counted
 pub ones-masked : (m n : ℕ) → n < bits → ones (bit_and m (1 * 2 ^ n % 2 ^ bits - 1)) ≡ count_in n (in_set m)

@@ -1,6 +1,7 @@
-ghost use Rattle.std.specs.Prelude.{◌≡◌};
+ghost use Rattle.std.specs.Prelude.{ℕ, ◌≡◌};
+ghost use Rattle.delivery.specs.Tests.{◌or◌};
 ghost use Rattle.delivery.specs.Limits.{limits};
-ghost use Rattle.delivery.specs.Sets.{set_of, bits};
+ghost use Rattle.delivery.specs.Sets.{in_set, set_of, bits};
 ghost use Rattle.delivery.specs.Owed.{no_copies, receivers_at, with_receivers_at, nothing_owed, copies_of, receivers, with_receivers, lacks, after_signing, after_delivery};
 
 use crate::delivered::Delivered;
@@ -17,16 +18,6 @@ pub struct Copies {
 #[derive(Clone, Copy)]
 pub struct Owed {
     pub speakers: [Copies; Delivered::BOARDS as usize],
-}
-
-// The sound boards other than the speaker that do not have a statement.
-#[tactic(auto, using(crate::proofs::Rules::rules_owed_lacking))]
-fn lacking(speaker: u8, sound: BoardSet, have: BoardSet) -> BoardSet
-    ensures { result ≡ set_of bits (lacks sound have speaker) }
-{
-    let mut others = sound;
-    others.remove(speaker);
-    others.minus(have)
 }
 
 impl Copies {
@@ -75,11 +66,14 @@ impl Owed {
     }
 
     // The boards to which a copy of a speaker's statement is owed.
-    #[tactic(auto, unfolding(crate::specs::Owed::receivers))]
+    #[tactic(auto, using(crate::proofs::Rules::rules_owed_owed_receivers), unfolding(crate::specs::Owed::receivers, crate::specs::Owed::copies_of))]
     pub fn receivers(&self, speaker: u8, id: Identifier) -> BoardSet
         ensures { result ≡ receivers limits self.now speaker id.0 }
     {
-        self.copies(speaker).receivers(id)
+        match self.speakers.get((speaker as usize).wrapping_sub(1)) {
+            Some(copies) => copies.receivers(id),
+            None => BoardSet::empty(),
+        }
     }
 
     // Has the boards in `set` owed a copy of it instead.
@@ -92,13 +86,23 @@ impl Owed {
         }
     }
 
-    // Records that a sound board signed: `sound` are the sound boards, `have` those that have the statement.
-    #[tactic(auto, using(crate::proofs::Rules::rules_owed_owed_record_signing), unfolding(crate::specs::Owed::after_signing))]
+    // The boards to which a copy of it is owed, and the sound ones other than the speaker that do not have it:
+    // `sound` are the sound boards, `have` those that have the statement.
+    #[tactic(auto, using(crate::proofs::Rules::rules_owed_owed_with_lacking))]
+    fn with_lacking(&self, speaker: u8, id: Identifier, sound: BoardSet, have: BoardSet) -> BoardSet
+        ensures { result ≡ set_of bits (λ (k : ℕ). in_set (receivers limits self.now speaker id.0) k or lacks sound have speaker k) }
+    {
+        let mut others = sound;
+        others.remove(speaker);
+        self.receivers(speaker, id).union(others.minus(have))
+    }
+
+    // Records that a sound board signed.
+    #[tactic(auto, unfolding(crate::specs::Owed::after_signing))]
     pub fn record_signing(&mut self, speaker: u8, id: Identifier, sound: BoardSet, have: BoardSet)
         ensures { self.new ≡ after_signing limits self.old speaker id.0 sound have }
     {
-        let sent = lacking(speaker, sound, have);
-        let owed = self.receivers(speaker, id).union(sent);
+        let owed = self.with_lacking(speaker, id, sound, have);
         self.set_receivers(speaker, id, owed);
     }
 
@@ -114,8 +118,7 @@ impl Owed {
     )
         ensures { self.new ≡ after_delivery limits self.old board speaker id.0 sound have }
     {
-        let echoed = lacking(speaker, sound, have);
-        let mut owed = self.receivers(speaker, id).union(echoed);
+        let mut owed = self.with_lacking(speaker, id, sound, have);
         owed.remove(board);
         self.set_receivers(speaker, id, owed);
     }

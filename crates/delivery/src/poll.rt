@@ -135,11 +135,7 @@ impl<'a> Poll<'a> {
     pub fn accepts_opening(&self, value: u16) -> bool
         ensures { result ≡ accepts_opening limits self.now.n (heard limits self.now.delivered) self.now.round value }
     {
-        let entry = self.opening();
-        if entry != Log::entry_of(value) {
-            return false;
-        }
-        self.allows(entry)
+        self.opening() == Log::entry_of(value) && self.allowed(value)
     }
 
     // Whether a speaker's ballot of the round with a value is accepted.
@@ -150,13 +146,7 @@ impl<'a> Poll<'a> {
         let entry = self
             .delivered
             .entry(speaker, self.round.identifier(Phase::Ballot));
-        if entry != Log::entry_of(value) {
-            return false;
-        }
-        if value == Log::BLANK {
-            return true;
-        }
-        self.accepts_opening(value)
+        entry == Log::entry_of(value) && (value == Log::BLANK || self.accepts_opening(value))
     }
 
     // The boards of 1 to n whose accepted ballots of the round bear a value.

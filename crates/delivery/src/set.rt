@@ -50,15 +50,23 @@ impl BoardSet {
         self.mask
     }
 
+    // Board k alone; no board where k has no bit.
+    #[tactic(auto, using(crate::proofs::Rules::rules_set_boardset_alone))]
+    fn alone(k: u8) -> BoardSet
+        ensures { result ≡ with_board 0 k }
+    {
+        if !from_one::within(k, BoardSet::BITS) {
+            return BoardSet::empty();
+        }
+        BoardSet { mask: 1 << (k - 1) }
+    }
+
     // Whether board k is in the set.
     #[tactic(auto, using(crate::proofs::Rules::rules_set_boardset_contains))]
     pub fn contains(self, k: u8) -> bool
         ensures { result ≡ in_set self k }
     {
-        if !from_one::within(k, BoardSet::BITS) {
-            return false;
-        }
-        (self.mask >> (k - 1)) % 2 == 1
+        from_one::within(k, BoardSet::BITS) && (self.mask >> (k - 1)) % 2 == 1
     }
 
     // Puts board k in.
@@ -66,9 +74,7 @@ impl BoardSet {
     pub fn insert(&mut self, k: u8)
         ensures { self.new ≡ with_board self.old k }
     {
-        if from_one::within(k, BoardSet::BITS) {
-            self.mask |= 1u16 << (k - 1);
-        }
+        *self = self.union(BoardSet::alone(k));
     }
 
     // Takes board k out.
@@ -76,9 +82,7 @@ impl BoardSet {
     pub fn remove(&mut self, k: u8)
         ensures { self.new ≡ without_board self.old k }
     {
-        let mut alone = BoardSet::empty();
-        alone.insert(k);
-        *self = self.minus(alone);
+        *self = self.minus(BoardSet::alone(k));
     }
 
     // The boards of either set.

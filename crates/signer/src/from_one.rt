@@ -14,10 +14,9 @@ pub fn within(k: u8, limit: u8) -> bool
 pub fn nth<T: Copy>(list: &[T], k: u8, none: T) -> T
     ensures { result ≡ nth list.now k none }
 {
-    if k == 0 || k as usize > list.len() {
-        return none;
-    }
-    list[k as usize - 1]
+    // index MAX, that of element 0, is no list's
+    let index = (k as usize).wrapping_sub(1);
+    list.get(index).copied().unwrap_or(none)
 }
 
 // Puts this in as element k; a list without an element k stays as it is.
