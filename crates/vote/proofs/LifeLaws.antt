@@ -5,6 +5,7 @@ use mathlib.Core.Path.{◌≡◌, refl, sym, ap, subst, subst⁻¹, ◌∙◌}
 use mathlib.Core.Bool.{true≢false}
 use mathlib.Core.List.{List, [], ◌∷◌}
 use mathlib.Core.Logic.{◌⊎◌, inl, inr, ⊎_elim}
+use Rattle.std.specs.Prelude.{Option, None, Some}
 use Rattle.delivery.specs.Limits.{Limits}
 use Rattle.delivery.specs.Delivered.{Store, heard}
 use Rattle.delivery.specs.Sets.{with_board, without_board}
@@ -15,8 +16,6 @@ use Rattle.vote.specs.Turns.{turn}
 use Rattle.vote.specs.Announcements.{announce}
 use Rattle.vote.specs.Calls.{Call, proposal, own_turn, delivery, suspicion, restored-trust, announcement, called, after, signed_in, put, statements}
 use Rattle.vote.specs.declared.statement.Statement.{Statement}
-use Rattle.vote.specs.declared.statement.Said.{Said}
-use Rattle.vote.specs.declared.statement.Said.TheVariants.{Nothing, One}
 use Rattle.vote.specs.declared.board.Board.{Board}
 use Rattle.vote.specs.declared.board.Decision.{Decision}
 use Rattle.vote.specs.declared.board.Status.TheVariants.{Decided}
@@ -222,7 +221,7 @@ module _ (L : Limits) (n me : ℕ) (b : Board) (p : Proper L b) where
   Signed-next : Call → Statement → Type 0
   Signed-next c s = (s.id.0 ≡ due L b) × (s.id.0 < due L (called L n me b c))
 
-  signed-next : (c : Call) (s : Statement) → signed_in L n me b c ≡ One s → Signed-next c s
+  signed-next : (c : Call) (s : Statement) → signed_in L n me b c ≡ Some s → Signed-next c s
   unfolding called signed_in Signed-next
   signed-next (proposal v) s e = absurd (nothing-one s e)
   signed-next own_turn s e = (signs-due L n me b s (turn-signs L n me b s e), signed-past L n me b s e (voting-round L b p))
@@ -231,11 +230,11 @@ module _ (L : Limits) (n me : ℕ) (b : Board) (p : Proper L b) where
   signed-next (restored-trust k) s e = absurd (nothing-one s e)
   signed-next (announcement r v) s e = absurd (nothing-one s e)
 
-  put-rising : (c : Call) (x : Said) (ss : List Statement) → signed_in L n me b c ≡ x → Rising (due L (called L n me b c)) ss
+  put-rising : (c : Call) (x : Option Statement) (ss : List Statement) → signed_in L n me b c ≡ x → Rising (due L (called L n me b c)) ss
       → Rising (due L b) (put x ss)
   unfolding put Signed-next
-  put-rising c Nothing ss e r = rising-from (due L b) (due L (called L n me b c)) ss (called-due c) r
-  put-rising c (One s) ss e r =
+  put-rising c None ss e r = rising-from (due L b) (due L (called L n me b c)) ss (called-due c) r
+  put-rising c (Some s) ss e r =
       let k = signed-next c s e in
       and_then (due L b) s ss (omega (arith, k.0)) (rising-from (suc s.id.0) (due L (called L n me b c)) ss k.1 r)
 

@@ -4,6 +4,7 @@ use native.Mathlib.Omega.{arith}
 use native.Mathlib.Nat.{le_of_lt}
 use mathlib.Core.Path.{◌≡◌, refl, sym, ap, subst, ◌∙◌}
 use mathlib.Core.Bool.{true, false, true≢false}
+use Rattle.std.specs.Prelude.{None, Some}
 use Rattle.signer.proofs.FromOneLaws.{within_in}
 use Rattle.delivery.specs.Limits.{Limits}
 use Rattle.delivery.specs.Rounds.{is_round, coordinator, identifier_of}
@@ -17,7 +18,6 @@ use Rattle.vote.specs.declared.position.Position.{Position}
 use Rattle.vote.specs.declared.position.Stage.{Stage}
 use Rattle.vote.specs.declared.position.Stage.TheVariants.{Open, Vote, Count}
 use Rattle.vote.specs.declared.statement.Statement.{Statement}
-use Rattle.vote.specs.declared.statement.Said.TheVariants.{Nothing, One}
 use Rattle.vote.specs.declared.board.Board.{Board}
 use Rattle.vote.specs.declared.board.Status.{Status}
 use Rattle.vote.specs.declared.board.Status.TheVariants.{Idle, Voting, Spent, Decided}
@@ -86,8 +86,8 @@ module _ (L : Limits) (n me : ℕ) (b : Board) where
   signs-due s (signs-ballot v g e) = sym (ap (λ (x : Statement). x.id.0) e) ∙ sym (due-voting Vote v g)
 
   pub data Speech (t : Turn) : Type 0 where
-    silent : t.signed ≡ Nothing → t.board.delivered ≡ b.delivered → Speech t
-    speaks : (s : Statement) → Signs L n me b s → t.signed ≡ One s → t.board.delivered ≡ hears L b.delivered s
+    silent : t.signed ≡ None → t.board.delivered ≡ b.delivered → Speech t
+    speaks : (s : Statement) → Signs L n me b s → t.signed ≡ Some s → t.board.delivered ≡ hears L b.delivered s
         → (is_round L r ≡ true → due L b < due L t.board) → Speech t
 
   quiet : (t : Turn) (x : Board) → b.delivered ≡ x.delivered → t ≡ done x → Speech t
@@ -134,14 +134,14 @@ module _ (L : Limits) (n me : ℕ) (b : Board) where
   turn-speech = course-speech (turn L n me b) (turn-course L n me b)
 
   -- what is signed in a turn is what the stage says, and past it the board signs nothing lower
-  pub turn-signs : (s : Statement) → (turn L n me b).signed ≡ One s → Signs L n me b s
+  pub turn-signs : (s : Statement) → (turn L n me b).signed ≡ Some s → Signs L n me b s
   turn-signs s e = go turn-speech
     where
       go : Speech (turn L n me b) → Signs L n me b s
       go (silent i d) = absurd (nothing-one s (sym i ∙ e))
       go (speaks x w i d l) = subst (Signs L n me b) (one-statement x s (sym i ∙ e)) w
 
-  pub signed-past : (s : Statement) → (turn L n me b).signed ≡ One s → (b.status ≡ Voting → is_round L r ≡ true)
+  pub signed-past : (s : Statement) → (turn L n me b).signed ≡ Some s → (b.status ≡ Voting → is_round L r ≡ true)
       → s.id.0 < due L (turn L n me b).board
   signed-past s e i = go turn-speech
     where

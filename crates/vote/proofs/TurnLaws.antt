@@ -4,6 +4,7 @@ use mathlib.Core.Path.{◌≡◌, refl, sym, ap, subst⁻¹, ◌∙◌}
 use mathlib.Core.Bool.{Bool, true, false, true≢false}
 use mathlib.Core.Logic.{◌⊎◌, inl, inr}
 use native.Mathlib.Omega.{arith}
+use Rattle.std.specs.Prelude.{Option, None, Some, Result, Ok, Err}
 use Rattle.delivery.specs.Limits.{Limits}
 use Rattle.delivery.specs.Rounds.{coordinator, next_round}
 use Rattle.delivery.specs.Delivered.{Store, heard}
@@ -16,37 +17,35 @@ use Rattle.delivery.proofs.AgreementLaws.{Won}
 use Rattle.vote.specs.Ballots.{opened_value}
 use Rattle.vote.specs.Boards.{is_ended, decision_of, hears}
 use Rattle.vote.specs.Rule.{may_vote, chosen, rule}
-use Rattle.vote.specs.Turns.{turn_number, at_stage, position_after, status_after, statement_of, said_in, hears_own, answer_to, refuse, take, turn_in, turn}
+use Rattle.vote.specs.Turns.{turn_number, turn_answer, at_stage, position_after, status_after, statement_of, said_in, hears_own, answer_to, refuse, take, turn_in, turn}
 use Rattle.vote.specs.declared.position.Stage.{Stage}
 use Rattle.vote.specs.declared.position.Stage.TheVariants.{Open, Vote, Count}
 use Rattle.vote.specs.declared.rule.Move.{Move}
 use Rattle.vote.specs.declared.rule.Move.TheVariants.{Waits, Passes, Opens, Ballots, Decides, Advances, Expires}
 use Rattle.vote.specs.declared.statement.Statement.{Statement}
-use Rattle.vote.specs.declared.statement.Said.{Said}
-use Rattle.vote.specs.declared.statement.Said.TheVariants.{Nothing, One}
 use Rattle.vote.specs.declared.board.Board.{Board}
 use Rattle.vote.specs.declared.board.Status.{Status}
 use Rattle.vote.specs.declared.board.Status.TheVariants.{Idle, Voting, Spent, Decided}
-use Rattle.vote.specs.declared.turn.Answer.{Answer}
-use Rattle.vote.specs.declared.turn.Answer.TheVariants.{Done, NotStarted, Ended, Waiting}
+use Rattle.vote.specs.declared.turn.Refusal.{Refusal}
+use Rattle.vote.specs.declared.turn.Refusal.TheVariants.{NotStarted, Ended, Waiting}
 use Rattle.vote.specs.declared.turn.Turn.{Turn}
 use Rattle.vote.proofs.StatusLaws.{ended-spent, ended-decided}
 use Rattle.vote.proofs.RuleLaws.{MayCount, Next, Acts, passes, opens, ballots, decides, advances, expires, rule-acts, next-origin}
 
 -- something said is not nothing, and is one statement
-speaks : Said → Bool
-speaks Nothing = false
-speaks (One s) = true
+speaks : Option Statement → Bool
+speaks None = false
+speaks (Some s) = true
 
-pub nothing-one : (s : Statement) → Nothing ≡ One s → ⊥
+pub nothing-one : (s : Statement) → None ≡ Some s → ⊥
 unfolding speaks
 nothing-one s e = true≢false (sym (ap speaks e))
 
-content : Statement → Said → Statement
-content x Nothing = x
-content x (One s) = s
+content : Statement → Option Statement → Statement
+content x None = x
+content x (Some s) = s
 
-pub one-statement : (s s' : Statement) → One s ≡ One s' → s ≡ s'
+pub one-statement : (s s' : Statement) → Some s ≡ Some s' → s ≡ s'
 unfolding content
 one-statement s s' e = ap (content s) e
 
@@ -57,10 +56,10 @@ placed b r e s d t =
 
 -- a turn that is taken
 abbrev pub done : Board → Turn
-done b = record { board = b; answer = Done; signed = Nothing }
+done b = record { board = b; answer = Ok tt; signed = None }
 
 abbrev pub spoken : Board → Statement → Turn
-spoken b s = record { board = b; answer = Done; signed = One s }
+spoken b s = record { board = b; answer = Ok tt; signed = Some s }
 
 -- what holds of the board that a turn comes to holds of the board that the turn hands back
 pub turned : (P : Board → Type 0) (t u : Turn) → t ≡ u → P u.board → P t.board
@@ -102,43 +101,44 @@ module _ (L : Limits) (me : ℕ) (b : Board) where
   unfolding position_after status_after said_in hears_own answer_to
   take-expires v = refl
 
--- no other answer is `Done`
-answered : Answer → Bool
-answered Done = true
-answered NotStarted = false
-answered Ended = false
-answered Waiting = false
+-- no refusal says that the turn is taken
+answered : Result (Unit {0}) Refusal → Bool
+answered (Ok u) = true
+answered (Err r) = false
 
-pub idle-not : NotStarted ≡ Done → ⊥
+pub idle-not : Err NotStarted ≡ Ok (tt {0}) → ⊥
 unfolding answered
 idle-not e = true≢false (sym (ap answered e))
 
-pub ended-not : Ended ≡ Done → ⊥
+pub ended-not : Err Ended ≡ Ok (tt {0}) → ⊥
 unfolding answered
 ended-not e = true≢false (sym (ap answered e))
 
-pub waiting-not : Waiting ≡ Done → ⊥
+pub waiting-not : Err Waiting ≡ Ok (tt {0}) → ⊥
 unfolding answered
 waiting-not e = true≢false (sym (ap answered e))
 
--- the numbers of the answers: 0 is that of `Done` alone, and the others are among those of the rows for events
-pub number-within : (a : Answer) → (turn_number a ≡ 0) ⊎ ((10 ≤ turn_number a) × (turn_number a ≤ 22))
+-- the numbers of the refusals are among those of the rows for events
+pub refusal-within : (r : Refusal) → (10 ≤ turn_number r) × (turn_number r ≤ 22)
 unfolding turn_number
-number-within Done = inl refl
-number-within NotStarted = inr (omega arith, omega arith)
-number-within Ended = inr (omega arith, omega arith)
-number-within Waiting = inr (omega arith, omega arith)
+refusal-within NotStarted = (omega arith, omega arith)
+refusal-within Ended = (omega arith, omega arith)
+refusal-within Waiting = (omega arith, omega arith)
 
-pub number-done : turn_number Done ≡ 0
-unfolding turn_number
+-- and 0 is the number of a turn that is taken alone
+pub number-within : (a : Result (Unit {0}) Refusal) → (turn_answer a ≡ 0) ⊎ ((10 ≤ turn_answer a) × (turn_answer a ≤ 22))
+unfolding turn_answer
+number-within (Ok u) = inl refl
+number-within (Err r) = inr (refusal-within r)
+
+pub number-done : turn_answer (Ok tt) ≡ 0
+unfolding turn_answer
 number-done = refl
 
-pub number-some : (a : Answer) → turn_number a ≡ 0 → a ≡ Done
-unfolding turn_number
-number-some Done e = refl
-number-some NotStarted e = absurd (omega (arith, e))
-number-some Ended e = absurd (omega (arith, e))
-number-some Waiting e = absurd (omega (arith, e))
+pub number-some : (a : Result (Unit {0}) Refusal) → turn_answer a ≡ 0 → a ≡ Ok tt
+unfolding turn_answer
+number-some (Ok tt) e = refl
+number-some (Err r) e = absurd (omega (arith, e, refusal-within r))
 
 -- whose turn is not taken: one that has not started, and one that is decided or spent
 ended-turn : (L : Limits) (n me : ℕ) (b : Board) (s : Status) → is_ended s ≡ true → turn_in L n me b s ≡ refuse b Ended
@@ -170,7 +170,7 @@ module _ (L : Limits) (n me : ℕ) (b : Board) where
 
   -- What a turn comes to: it is not taken, or the board was voting and does one of these.
   pub data Course (t : Turn) : Type 0 where
-    not_taken : (a : Answer) → (a ≡ Done → ⊥) → t ≡ refuse b a → Course t
+    not_taken : (a : Refusal) → (Err a ≡ Ok (tt {0}) → ⊥) → t ≡ refuse b a → Course t
     passed : b.status ≡ Voting → b.position.stage ≡ Open → (me ≡ coordinator n round.0 → ⊥)
         → t ≡ done (placed b round b.position.estimate Vote b.delivered Voting) → Course t
     opened : b.status ≡ Voting → b.position.stage ≡ Open → me ≡ coordinator n round.0
@@ -227,7 +227,7 @@ module _ (L : Limits) (n me : ℕ) (b : Board) where
       go (Decided d) e = not_taken Ended ended-not (turn-ended L n me b (ap is_ended e ∙ ended-decided d))
 
   -- a turn that is not done changes nothing and signs nothing; above all one in which the board waits
-  course-refused : (t : Turn) → Course t → (t.answer ≡ Done → ⊥) → (t.board ≡ b) × (t.signed ≡ Nothing)
+  course-refused : (t : Turn) → Course t → (t.answer ≡ Ok tt → ⊥) → (t.board ≡ b) × (t.signed ≡ None)
   course-refused t (not_taken a f e) x = (ap (λ (u : Turn). u.board) e, ap (λ (u : Turn). u.signed) e)
   course-refused t (passed v g f e) x = absurd (x (ap (λ (u : Turn). u.answer) e))
   course-refused t (opened v g c e) x = absurd (x (ap (λ (u : Turn). u.answer) e))
@@ -236,7 +236,7 @@ module _ (L : Limits) (n me : ℕ) (b : Board) where
   course-refused t (advanced w v g m z l k e) x = absurd (x (ap (λ (u : Turn). u.answer) e))
   course-refused t (expired w v g m z l k e) x = absurd (x (ap (λ (u : Turn). u.answer) e))
 
-  pub turn-refused : ((turn L n me b).answer ≡ Done → ⊥) → ((turn L n me b).board ≡ b) × ((turn L n me b).signed ≡ Nothing)
+  pub turn-refused : ((turn L n me b).answer ≡ Ok tt → ⊥) → ((turn L n me b).board ≡ b) × ((turn L n me b).signed ≡ None)
   turn-refused = course-refused (turn L n me b) turn-course
 
   pub turn-waits : rule L n me b.position store ≡ Waits → b.status ≡ Voting → turn L n me b ≡ refuse b Waiting

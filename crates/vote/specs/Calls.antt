@@ -1,12 +1,10 @@
 -- A board's life: any list of calls, the oldest first.
-use Rattle.std.specs.Prelude.{ℕ, List, [], ◌∷◌}
+use Rattle.std.specs.Prelude.{ℕ, List, [], ◌∷◌, Option, None, Some}
 use Rattle.delivery.specs.Limits.{Limits}
 use Rattle.vote.specs.Boards.{propose, deliver_to, suspect, trust}
 use Rattle.vote.specs.Turns.{turn}
 use Rattle.vote.specs.Announcements.{announce}
 use Rattle.vote.specs.declared.board.Board.{Board}
-use Rattle.vote.specs.declared.statement.Said.{Said}
-use Rattle.vote.specs.declared.statement.Said.TheVariants.{Nothing, One}
 use Rattle.vote.specs.declared.statement.Statement.{Statement}
 
 -- what can be asked of a board: document 01's kinds 1 to 6, in their order, from the side of the board that they are for.
@@ -33,17 +31,17 @@ after L n me b [] = b
 after L n me b (c ∷ cs) = after L n me (called L n me b c) cs
 
 -- what it signs, in the order in which it does
-unfoldable pub signed_in : Limits → ℕ → ℕ → Board → Call → Said
-signed_in L n me b (proposal v) = Nothing
+unfoldable pub signed_in : Limits → ℕ → ℕ → Board → Call → Option Statement
+signed_in L n me b (proposal v) = None
 signed_in L n me b own_turn = (turn L n me b).signed
-signed_in L n me b (delivery s) = Nothing
-signed_in L n me b (announcement r v) = Nothing
-signed_in L n me b (suspicion k) = Nothing
-signed_in L n me b (restored-trust k) = Nothing
+signed_in L n me b (delivery s) = None
+signed_in L n me b (announcement r v) = None
+signed_in L n me b (suspicion k) = None
+signed_in L n me b (restored-trust k) = None
 
-unfoldable pub put : Said → List Statement → List Statement
-put Nothing ss = ss
-put (One s) ss = s ∷ ss
+unfoldable pub put : Option Statement → List Statement → List Statement
+put None ss = ss
+put (Some s) ss = s ∷ ss
 
 unfoldable pub statements : Limits → ℕ → ℕ → Board → List Call → List Statement
 statements L n me b [] = []

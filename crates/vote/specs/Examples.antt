@@ -7,7 +7,7 @@ use Rattle.delivery.specs.Delivered.{heard}
 use Rattle.delivery.specs.declared.round.Phase.{Phase}
 use Rattle.delivery.specs.declared.round.Phase.TheVariants.{Opening, Ballot}
 use Rattle.vote.specs.Boards.{fresh_board, decision_of}
-use Rattle.vote.specs.Turns.{turn_number, statement_of, turn}
+use Rattle.vote.specs.Turns.{turn_answer, statement_of, turn}
 use Rattle.vote.specs.Calls.{Call, proposal, own_turn, delivery, suspicion, announcement, after}
 use Rattle.vote.specs.declared.board.Board.{Board}
 use Rattle.vote.specs.declared.board.Status.TheVariants.{Decided}
@@ -17,7 +17,7 @@ abbrev pub board : ℕ → ℕ → List Call → Board
 board n me cs = after limits n me (fresh_board limits) cs
 
 abbrev pub answer : ℕ → ℕ → List Call → ℕ
-answer n me cs = turn_number (turn limits n me (board n me cs)).answer
+answer n me cs = turn_answer (turn limits n me (board n me cs)).answer
 
 -- a statement of a round arrives
 abbrev pub arrives : ℕ → Phase → ℕ → ℕ → Call

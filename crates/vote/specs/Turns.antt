@@ -1,6 +1,6 @@
 -- Document 01, "A board's turns" and the rows of its table that speak of turns: what a turn does to the board, how it is
 -- answered, and what the board signs.
-use Rattle.std.specs.Prelude.{ℕ}
+use Rattle.std.specs.Prelude.{ℕ, Option, None, Some, Result, Ok, Err}
 use Rattle.delivery.specs.Limits.{Limits}
 use Rattle.delivery.specs.Rounds.{next_round, identifier_of}
 use Rattle.delivery.specs.Delivered.{heard}
@@ -15,31 +15,33 @@ use Rattle.vote.specs.declared.position.Stage.TheVariants.{Open, Vote, Count}
 use Rattle.vote.specs.declared.rule.Move.{Move}
 use Rattle.vote.specs.declared.rule.Move.TheVariants.{Waits, Passes, Opens, Ballots, Decides, Advances, Expires}
 use Rattle.vote.specs.declared.statement.Statement.{Statement}
-use Rattle.vote.specs.declared.statement.Said.{Said}
-use Rattle.vote.specs.declared.statement.Said.TheVariants.{Nothing, One}
 use Rattle.vote.specs.declared.board.Board.{Board}
 use Rattle.vote.specs.declared.board.Status.{Status}
 use Rattle.vote.specs.declared.board.Status.TheVariants.{Idle, Voting, Spent, Decided}
-use Rattle.vote.specs.declared.turn.Answer.{Answer}
-use Rattle.vote.specs.declared.turn.Answer.TheVariants.{Done, NotStarted, Ended, Waiting}
+use Rattle.vote.specs.declared.turn.Refusal.{Refusal}
+use Rattle.vote.specs.declared.turn.Refusal.TheVariants.{NotStarted, Ended, Waiting}
 use Rattle.vote.specs.declared.turn.Turn.{Turn}
 
--- the numbers of the answers in document 01's table
-unfoldable pub turn_number : Answer → ℕ
-turn_number Done = 0
+-- the numbers of the refusals in document 01's table
+unfoldable pub turn_number : Refusal → ℕ
 turn_number NotStarted = 15
 turn_number Ended = 16
 turn_number Waiting = 22
 
+-- and those of the answers: 0 where the turn is taken
+unfoldable pub turn_answer : Result (Unit {0}) Refusal → ℕ
+turn_answer (Ok done) = 0
+turn_answer (Err refusal) = turn_number refusal
+
 -- a turn in which the board waits is answered so, and every other is done
-unfoldable pub answer_to : Move → Answer
-answer_to Waits = Waiting
-answer_to Passes = Done
-answer_to (Opens v) = Done
-answer_to (Ballots v) = Done
-answer_to (Decides v) = Done
-answer_to (Advances v) = Done
-answer_to (Expires v) = Done
+unfoldable pub answer_to : Move → Result (Unit {0}) Refusal
+answer_to Waits = Err Waiting
+answer_to Passes = Ok tt
+answer_to (Opens v) = Ok tt
+answer_to (Ballots v) = Ok tt
+answer_to (Decides v) = Ok tt
+answer_to (Advances v) = Ok tt
+answer_to (Expires v) = Ok tt
 
 -- where the board stands afterwards: at stage B after A, at C after B, at A of the next round with the new estimate, or
 -- where it was; a board that is spent has taken the new estimate
@@ -71,23 +73,23 @@ abbrev pub statement_of : Limits → ℕ → Phase → ℕ → ℕ → Statement
 statement_of L s p r v = record { speaker = s; id = record { 0 = identifier_of L p r }; value = v }
 
 -- what board `me` signs in round r: one of these, or nothing
-unfoldable pub said_in : Limits → ℕ → ℕ → Move → Said
-said_in L me r Waits = Nothing
-said_in L me r Passes = Nothing
-said_in L me r (Opens v) = One (statement_of L me Opening r v)
-said_in L me r (Ballots v) = One (statement_of L me Ballot r v)
-said_in L me r (Decides v) = Nothing
-said_in L me r (Advances v) = Nothing
-said_in L me r (Expires v) = Nothing
+unfoldable pub said_in : Limits → ℕ → ℕ → Move → Option Statement
+said_in L me r Waits = None
+said_in L me r Passes = None
+said_in L me r (Opens v) = Some (statement_of L me Opening r v)
+said_in L me r (Ballots v) = Some (statement_of L me Ballot r v)
+said_in L me r (Decides v) = None
+said_in L me r (Advances v) = None
+said_in L me r (Expires v) = None
 
 -- what it has delivered once it heard itself
-unfoldable pub hears_own : Limits → Delivered → Said → Delivered
-hears_own L d Nothing = d
-hears_own L d (One s) = hears L d s
+unfoldable pub hears_own : Limits → Delivered → Option Statement → Delivered
+hears_own L d None = d
+hears_own L d (Some s) = hears L d s
 
 -- a turn that is not taken leaves the board as it was
-abbrev pub refuse : Board → Answer → Turn
-refuse b a = record { board = b; answer = a; signed = Nothing }
+abbrev pub refuse : Board → Refusal → Turn
+refuse b r = record { board = b; answer = Err r; signed = None }
 
 -- a voting board's turn, in which it makes the move m; what it signs it has then delivered
 abbrev pub take : Limits → ℕ → Board → Move → Turn

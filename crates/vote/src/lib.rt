@@ -12,5 +12,5 @@ mod turn;
 pub use board::{Board, Decision, Status};
 pub use position::{Position, Stage};
 pub use rule::Move;
-pub use statement::{Said, Statement};
-pub use turn::{Answer, Turn};
+pub use statement::Statement;
+pub use turn::{Refusal, Turn};

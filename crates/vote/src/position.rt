@@ -1,11 +1,10 @@
 ghost use Rattle.std.specs.Prelude.{◌≡◌};
 ghost use Rattle.vote.specs.Boards.{fresh_position, starting_with};
-ghost use Rattle.vote.specs.Turns.{at_stage};
 
 use delivery::Round;
 
 // What a board does next in its round; document 01 calls these A, B and C.
-#[derive(Clone, Copy)]
+#[derive(Clone, Copy, Debug, PartialEq, Eq)]
 pub enum Stage {
     Open,
     Vote,
@@ -34,29 +33,13 @@ impl Position {
         }
     }
 
-    // At the start of round 1 with this estimate; the suspicions stay.
+    // Takes it to the start of round 1 with this estimate; the suspicions stay.
     #[tactic(auto, unfolding(crate::specs::Boards::starting_with))]
-    pub(crate) fn starting_with(self, estimate: u16) -> Position
-        ensures { result ≡ starting_with self estimate }
+    pub(crate) fn start_with(&mut self, estimate: u16)
+        ensures { self.new ≡ starting_with self.old estimate }
     {
-        Position {
-            round: Round(1),
-            estimate,
-            stage: Stage::Open,
-            suspected: self.suspected,
-        }
-    }
-
-    #[tactic(auto, unfolding(crate::specs::Turns::at_stage))]
-    pub(crate) fn at_stage(self, stage: Stage) -> Position
-        ensures { result ≡ at_stage self stage }
-    {
-        let round = self.round;
-        Position {
-            round,
-            estimate: self.estimate,
-            stage,
-            suspected: self.suspected,
-        }
+        self.round = Round(1);
+        self.estimate = estimate;
+        self.stage = Stage::Open;
     }
 }

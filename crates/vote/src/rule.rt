@@ -10,7 +10,7 @@ use signer::Log;
 
 // What a board does in a turn: it waits; passes, not being coordinator; opens with its estimate; gives a ballot with a
 // value; decides a value; goes on with an estimate; or is spent with one.
-#[derive(Clone, Copy)]
+#[derive(Clone, Copy, Debug, PartialEq, Eq)]
 pub enum Move {
     Waits,
     Passes,
@@ -110,11 +110,10 @@ impl Position {
 
     // What the board does in its turn.
     #[tactic(auto, using(crate::proofs::Rules::rules_position_position_rule))]
-    pub fn rule(self, n: u8, me: u8, delivered: Delivered) -> Move
-        ensures { result ≡ rule limits n me self (heard limits delivered) }
+    pub fn rule(&self, n: u8, me: u8, delivered: &Delivered) -> Move
+        ensures { result ≡ rule limits n me self.now (heard limits delivered.now) }
     {
-        let stage = self.stage;
-        match stage {
+        match self.stage {
             Stage::Open => self.open_move(n, me),
             Stage::Vote => self.vote_move(n, &delivered.entries),
             Stage::Count => self.count_move(n, &delivered.entries),

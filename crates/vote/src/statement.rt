@@ -7,10 +7,3 @@ pub struct Statement {
     pub id: Identifier,
     pub value: u16,
 }
-
-// What a board has to say in a turn.
-#[derive(Clone, Copy)]
-pub enum Said {
-    Nothing,
-    One(Statement),
-}

@@ -1,75 +1,69 @@
 ghost use Rattle.std.specs.Prelude.{◌≡◌};
 ghost use Rattle.delivery.specs.Limits.{limits};
-ghost use Rattle.vote.specs.Boards.{with_status};
-ghost use Rattle.vote.specs.Turns.{turn_number, position_after, status_after, said_in, hears_own, answer_to, refuse, turn};
+ghost use Rattle.delivery.specs.Delivered.{heard};
+ghost use Rattle.vote.specs.Rule.{rule};
+ghost use Rattle.vote.specs.Turns.{turn_number, position_after, status_after, said_in, answer_to, refuse, take, turn};
 
 use crate::board::{Board, Decision, Status};
 use crate::position::{Position, Stage};
 use crate::rule::Move;
-use crate::statement::{Said, Statement};
-use delivery::{Delivered, Phase, Round};
+use crate::statement::Statement;
+use delivery::{Phase, Round};
 
-// How a turn was answered.
-#[derive(Clone, Copy)]
-pub enum Answer {
-    Done,
-    NotStarted,
-    Ended,
-    Waiting,
+// Why a turn was not taken, with its number in document 01's table.
+#[derive(Clone, Copy, Debug, PartialEq, Eq)]
+pub enum Refusal {
+    NotStarted = 15,
+    Ended = 16,
+    Waiting = 22,
 }
 
 // What comes of a turn: the board afterwards, the answer, and what it has to say. The caller has that signed.
 #[derive(Clone, Copy)]
 pub struct Turn {
     pub board: Board,
-    pub answer: Answer,
-    pub signed: Said,
+    pub answer: Result<(), Refusal>,
+    pub signed: Option<Statement>,
 }
 
-impl Answer {
-    // The answer's number in document 01's table.
+impl Refusal {
     #[tactic(auto, unfolding(crate::specs::Turns::turn_number))]
     pub fn number(self) -> u8
         ensures { result ≡ turn_number self }
     {
-        match self {
-            Answer::Done => 0,
-            Answer::NotStarted => 15,
-            Answer::Ended => 16,
-            Answer::Waiting => 22,
-        }
+        self as u8
     }
 }
 
 impl Move {
     // The answer to a turn in which the board does this.
     #[tactic(auto, unfolding(crate::specs::Turns::answer_to))]
-    fn answer(self) -> Answer
+    fn answer(self) -> Result<(), Refusal>
         ensures { result ≡ answer_to self }
     {
         match self {
-            Move::Waits => Answer::Waiting,
-            _ => Answer::Done,
+            Move::Waits => Err(Refusal::Waiting),
+            _ => Ok(()),
         }
     }
 
-    // What the board says.
+    // What board `me` says that does this in a round.
     #[tactic(auto, unfolding(crate::specs::Turns::said_in))]
-    fn said(self, me: u8, round: Round) -> Said
+    pub fn said(self, me: u8, round: Round) -> Option<Statement>
         ensures { result ≡ said_in limits me round.0 self }
     {
         match self {
-            Move::Opens(value) => Said::One(Statement {
+            Move::Opens(value) => Some(Statement {
                 speaker: me,
                 id: round.identifier(Phase::Opening),
                 value,
             }),
-            Move::Ballots(value) => Said::One(Statement {
+            Move::Ballots(value) => Some(Statement {
                 speaker: me,
                 id: round.identifier(Phase::Ballot),
                 value,
             }),
-            _ => Said::Nothing,
+            _ => None,
         }
     }
 
@@ -86,97 +80,75 @@ impl Move {
     }
 }
 
-impl Said {
-    // What a board has delivered that hears this.
-    #[tactic(auto, unfolding(crate::specs::Turns::hears_own, crate::specs::Boards::hears))]
-    fn heard_by(self, delivered: Delivered) -> Delivered
-        ensures { result ≡ hears_own limits delivered self }
-    {
-        match self {
-            Said::Nothing => delivered,
-            Said::One(s) => delivered.deliver(s.speaker, s.id, s.value),
-        }
-    }
-}
-
 impl Position {
-    // Where the board stands afterwards.
-    #[tactic(auto, unfolding(crate::specs::Turns::position_after))]
-    fn after(mut self, step: Move) -> Position
-        ensures { result ≡ position_after limits step self }
+    // Takes it to where the board stands after this.
+    #[tactic(auto, unfolding(crate::specs::Turns::position_after, crate::specs::Turns::at_stage))]
+    fn go_on(&mut self, step: Move)
+        ensures { self.new ≡ position_after limits step self.old }
     {
         match step {
-            Move::Waits => self,
-            Move::Passes => self.at_stage(Stage::Vote),
-            Move::Opens(_) => self.at_stage(Stage::Vote),
-            Move::Ballots(_) => self.at_stage(Stage::Count),
-            Move::Decides(_) => self,
+            Move::Waits | Move::Decides(_) => {}
+            Move::Passes | Move::Opens(_) => self.stage = Stage::Vote,
+            Move::Ballots(_) => self.stage = Stage::Count,
             Move::Advances(estimate) => {
-                let round = self.round.next();
-                Position {
-                    round,
-                    estimate,
-                    stage: Stage::Open,
-                    suspected: self.suspected,
-                }
-            }
-            Move::Expires(estimate) => {
+                self.round = self.round.next();
                 self.estimate = estimate;
-                self
+                self.stage = Stage::Open;
             }
+            Move::Expires(estimate) => self.estimate = estimate,
         }
     }
 }
 
 impl Board {
-    fn refuse(self, answer: Answer) -> Turn
-        ensures { result ≡ refuse self answer }
+    // What board `me` of n does in its turn, if it is voting.
+    pub fn next_move(&self, n: u8, me: u8) -> Move
+        ensures { result ≡ rule limits n me self.now.position (heard limits self.now.delivered) }
     {
-        let signed = Said::Nothing;
+        self.position.rule(n, me, &self.delivered)
+    }
+
+    // Board `me`, voting, does this. What it says it delivers to itself at once.
+    #[tactic(auto, unfolding(crate::specs::Turns::hears_own, crate::specs::Boards::deliver_to))]
+    pub fn make(&mut self, me: u8, step: Move)
+        ensures { self.new ≡ (take limits me self.old step).board }
+    {
+        let round = self.position.round;
+        if let Some(statement) = step.said(me, round) {
+            self.deliver(statement);
+        }
+        self.position.go_on(step);
+        self.status = step.status(round);
+    }
+
+    fn refuse(self, refusal: Refusal) -> Turn
+        ensures { result ≡ refuse self refusal }
+    {
         Turn {
             board: self,
-            answer,
-            signed,
+            answer: Err(refusal),
+            signed: None,
         }
     }
 
-    #[tactic(auto, unfolding(crate::specs::Boards::with_status))]
-    fn with_status(self, status: Status) -> Board
-        ensures { result ≡ with_status self status }
-    {
-        let position = self.position;
-        let delivered = self.delivered;
-        Board {
-            position,
-            delivered,
-            status,
-        }
-    }
-
-    // The turn of board `me` of n. What the board says it delivers to itself at once.
-    #[tactic(auto, using(crate::proofs::Rules::rules_board_board_turn), unfolding(crate::specs::Boards::with_status))]
+    // The turn of board `me` of n.
+    #[tactic(auto, unfolding(crate::specs::Turns::turn, crate::specs::Turns::turn_in))]
     pub fn turn(mut self, n: u8, me: u8) -> Turn
         ensures { result ≡ turn limits n me self }
     {
-        if !self.is_started() {
-            return self.refuse(Answer::NotStarted);
-        }
-        if self.is_ended() {
-            return self.refuse(Answer::Ended);
-        }
-        let position = self.position;
-        let step = position.rule(n, me, self.delivered);
-        let signed = step.said(me, position.round);
-        let delivered = signed.heard_by(self.delivered);
-        self.delivered = delivered;
-        let after = position.after(step);
-        self.position = after;
-        let board = self.with_status(step.status(position.round));
-        let answer = step.answer();
-        Turn {
-            board,
-            answer,
-            signed,
+        match self.status {
+            Status::Idle => self.refuse(Refusal::NotStarted),
+            Status::Voting => {
+                let step = self.next_move(n, me);
+                let signed = step.said(me, self.position.round);
+                self.make(me, step);
+                Turn {
+                    board: self,
+                    answer: step.answer(),
+                    signed,
+                }
+            }
+            Status::Spent | Status::Decided(_) => self.refuse(Refusal::Ended),
         }
     }
 }
