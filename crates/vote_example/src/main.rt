@@ -4,29 +4,12 @@
 
 use delivery::{Delivered, Phase, Round};
 use signer::Identifier;
-use std::io;
-use vote::{Board, Position, Said, Stage, Statement, Status};
+use std::{fmt, io};
+use vote::{Board, Position, Stage, Statement, Status};
 
-// The runs. Each has one board.
-#[derive(Clone, Copy)]
-enum Run {
-    OwnTurn,
-    Incident,
-    LastRound,
-    BlankOpening,
-    Suspected,
-    Alone,
-    NoBoards,
-    ManyBoards,
-    NoRound,
-    Neither,
-}
-
-// A step of a run; a statement has its speaker, round and value. Before each run stand its name, how many
-// boards there are, and which of them takes the steps.
+// A step of a run; a statement has its speaker, round and value.
 #[derive(Clone, Copy)]
 enum Step {
-    Run(Run, u8, u8),
     Propose(u16),
     Turn,
     Opening(u8, u8, u16),
@@ -38,11 +21,7 @@ enum Step {
     BlankRounds,
 }
 
-// The steps of all the runs, and how many these are.
-const COUNT: usize = 89;
-
-const STEPS: [Step; COUNT] = [
-    Step::Run(Run::OwnTurn, 3, 2),
+const OWN_TURN: &[Step] = &[
     Step::Turn,
     Step::Propose(700),
     Step::Turn,
@@ -58,7 +37,9 @@ const STEPS: [Step; COUNT] = [
     Step::Count(1, 700),
     Step::Ballot(3, 1, 700),
     Step::Count(1, 700),
-    Step::Run(Run::Incident, 3, 3),
+];
+
+const INCIDENT: &[Step] = &[
     Step::Propose(40),
     Step::Turn,
     Step::Suspect(1),
@@ -76,7 +57,9 @@ const STEPS: [Step; COUNT] = [
     Step::Announce(1, 41),
     Step::Ballot(2, 1, 41),
     Step::Announce(1, 41),
-    Step::Run(Run::LastRound, 3, 3),
+];
+
+const LAST_ROUND: &[Step] = &[
     Step::Propose(500),
     Step::Suspect(1),
     Step::Suspect(2),
@@ -86,13 +69,17 @@ const STEPS: [Step; COUNT] = [
     Step::Ballot(2, 3, 500),
     Step::Announce(3, 500),
     Step::Turn,
-    Step::Run(Run::BlankOpening, 3, 2),
+];
+
+const BLANK_OPENING: &[Step] = &[
     Step::Propose(700),
     Step::Turn,
     Step::Turn,
     Step::Opening(1, 1, 0),
     Step::Turn,
-    Step::Run(Run::Suspected, 3, 2),
+];
+
+const SUSPECTED: &[Step] = &[
     Step::Propose(700),
     Step::Turn,
     Step::Suspect(1),
@@ -100,26 +87,29 @@ const STEPS: [Step; COUNT] = [
     Step::Turn,
     Step::Ballot(3, 1, 41),
     Step::Turn,
-    Step::Run(Run::Alone, 1, 1),
-    Step::Propose(700),
-    Step::Turn,
-    Step::Turn,
-    Step::Turn,
-    Step::Run(Run::NoBoards, 0, 1),
+];
+
+const ALONE: &[Step] = &[Step::Propose(700), Step::Turn, Step::Turn, Step::Turn];
+
+const NO_BOARDS: &[Step] = &[
     Step::Propose(700),
     Step::Turn,
     Step::Turn,
     Step::Turn,
     Step::Count(1, 700),
     Step::Announce(1, 41),
-    Step::Run(Run::ManyBoards, 200, 1),
+];
+
+const MANY_BOARDS: &[Step] = &[
     Step::Propose(700),
     Step::Turn,
     Step::Turn,
     Step::Turn,
     Step::Count(1, 700),
     Step::Announce(1, 700),
-    Step::Run(Run::NoRound, 3, 1),
+];
+
+const NO_ROUND: &[Step] = &[
     Step::Turn,
     Step::Turn,
     Step::Suspect(1),
@@ -128,10 +118,81 @@ const STEPS: [Step; COUNT] = [
     Step::Ballot(2, 250, 0),
     Step::Count(250, 0),
     Step::Announce(250, 9),
-    Step::Run(Run::Neither, 0, 1),
-    Step::Turn,
-    Step::Turn,
 ];
+
+const NEITHER: &[Step] = &[Step::Turn, Step::Turn];
+
+impl fmt::Display for Step {
+    fn fmt<W: fmt::Write>(&self, f: &mut fmt::Formatter<W>) -> fmt::Result {
+        match *self {
+            Step::Propose(value) => write!(f, "propose {value}"),
+            Step::Turn => f.write_str("turn:"),
+            Step::Opening(k, round, value) => write!(
+                f,
+                "delivery: board {k} opens round {round} with {value}"
+            ),
+            Step::Ballot(k, round, value) => write!(
+                f,
+                "delivery: board {k} votes in round {round} with {value}"
+            ),
+            Step::Suspect(k) => write!(f, "suspect board {k}"),
+            Step::Trust(k) => write!(f, "trust board {k}"),
+            Step::Announce(round, value) => write!(f, "announcement of round {round} with {value}"),
+            Step::Count(round, value) => write!(
+                f,
+                "accepted ballots of round {round} with {value}"
+            ),
+            Step::BlankRounds => f.write_str(
+                "in every round a blank ballot of board 1 and three turns",
+            ),
+        }
+    }
+}
+
+// How a board stands, at the end of a line.
+#[derive(Clone, Copy)]
+struct Standing {
+    position: Position,
+    status: Status,
+}
+
+// The letter of a stage in document 01.
+fn letter(stage: Stage) -> char {
+    match stage {
+        Stage::Open => 'A',
+        Stage::Vote => 'B',
+        Stage::Count => 'C',
+    }
+}
+
+impl fmt::Display for Standing {
+    fn fmt<W: fmt::Write>(&self, f: &mut fmt::Formatter<W>) -> fmt::Result {
+        let Position {
+            round,
+            estimate,
+            stage,
+            ..
+        } = self.position;
+        let letter = letter(stage);
+        match self.status {
+            Status::Idle => f.write_str("N 0 0"),
+            Status::Voting => write!(f, "W {} {estimate} {letter}", round.0),
+            Status::Spent => write!(f, "X {} {estimate} {letter}", round.0),
+            Status::Decided(d) => write!(f, "D {} {}", d.round.0, d.value),
+        }
+    }
+}
+
+// What a statement's identifier stands for in a round.
+fn phase(id: Identifier, round: Round) -> &'static str {
+    if !round.in_range() {
+        "none"
+    } else if id.0 == round.identifier(Phase::Opening).0 {
+        "opening"
+    } else {
+        "ballot"
+    }
+}
 
 // A board, its number, and how many boards there are.
 #[derive(Clone, Copy)]
@@ -141,244 +202,166 @@ struct Seat {
     board: Board,
 }
 
-fn write(rt: &HostRuntime, text: &str) -> io::Result<()> {
-    print!(rt; "{text}")
-}
-
-fn write_number(rt: &HostRuntime, text: &str, n: u64) -> io::Result<()> {
-    print!(rt; "{text} {n}")
-}
-
-fn write_value(rt: &HostRuntime, text: &str, round: u8, value: u16) -> io::Result<()> {
-    write_number(rt, text, round as u64)?;
-    write_number(rt, " with", value as u64)
-}
-
-fn write_position(rt: &HostRuntime, letter: &str, position: Position) -> io::Result<()> {
-    write_number(rt, letter, position.round.0 as u64)?;
-    write_number(rt, "", position.estimate as u64)?;
-    let stage = position.stage;
-    match stage {
-        Stage::Open => write(rt, " A\n"),
-        Stage::Vote => write(rt, " B\n"),
-        Stage::Count => write(rt, " C\n"),
-    }
-}
-
-// How a board stands, at the end of a line.
-fn write_standing(rt: &HostRuntime, board: Board) -> io::Result<()> {
-    let status = board.status;
-    match status {
-        Status::Idle => write(rt, "; N 0 0\n"),
-        Status::Voting => write_position(rt, "; W", board.position),
-        Status::Spent => write_position(rt, "; X", board.position),
-        Status::Decided(d) => {
-            write_number(rt, "; D", d.round.0 as u64)?;
-            write_number(rt, "", d.value as u64)?;
-            write(rt, "\n")
-        }
-    }
-}
-
-// What a statement's identifier stands for in a round.
-fn write_phase(rt: &HostRuntime, id: Identifier, round: Round) -> io::Result<()> {
-    if !round.in_range() {
-        write(rt, " (none)")
-    } else if id.0 == round.identifier(Phase::Opening).0 {
-        write(rt, " (opening)")
-    } else {
-        write(rt, " (ballot)")
-    }
-}
-
-// What was signed in a turn of this round; the given text where it was nothing.
-fn write_signed(rt: &HostRuntime, signed: Said, round: Round, nothing: &str) -> io::Result<()> {
-    match signed {
-        Said::Nothing => write(rt, nothing),
-        Said::One(s) => {
-            write_number(rt, ", signs", s.id.0 as u64)?;
-            write_phase(rt, s.id, round)?;
-            write_number(rt, " with", s.value as u64)
-        }
-    }
-}
-
-fn write_heading(rt: &HostRuntime, run: Run) -> io::Result<()> {
-    match run {
-        Run::OwnTurn => write(rt, "board 2 of 3 decides by its own turn"),
-        Run::Incident => write(rt, "the incident, at board 3 of 3"),
-        Run::LastRound => write(rt, "board 3 of 3, spent in the last round"),
-        Run::BlankOpening => write(
-            rt,
-            "board 2 of 3: an opening with the blank counts as delivered",
-        ),
-        Run::Suspected => write(
-            rt,
-            "board 2 of 3: an accepted opening gets its value though its coordinator is suspected",
-        ),
-        Run::Alone => write(rt, "n = 1"),
-        Run::NoBoards => write(rt, "numbers that no bus has: n = 0"),
-        Run::ManyBoards => write(rt, "numbers that no bus has: n = 200"),
-        Run::NoRound => write(rt, "numbers that no bus has: round 250, n = 3"),
-        Run::Neither => write(rt, "numbers that no bus has: round 250, n = 0"),
-    }
-}
-
-// A board in a round that there is not.
-fn astray(stage: Stage) -> Board {
-    let position = Position {
-        round: Round(250),
-        estimate: 9,
-        stage,
-        suspected: 0,
-    };
-    let delivered = Delivered::fresh();
-    Board {
-        position,
-        delivered,
-        status: Status::Voting,
-    }
-}
-
-// The board that a run begins with.
-fn first_board(run: Run) -> Board {
-    match run {
-        Run::NoRound => astray(Stage::Open),
-        Run::Neither => astray(Stage::Count),
-        _ => Board::fresh(),
-    }
-}
-
-fn write_statement(
-    rt: &HostRuntime,
-    speaker: u8,
-    text: &str,
-    round: u8,
-    value: u16,
-) -> io::Result<()> {
-    write_number(rt, " delivery: board", speaker as u64)?;
-    write_value(rt, text, round, value)
-}
-
-fn write_asked(rt: &HostRuntime, step: Step) -> io::Result<()> {
-    match step {
-        Step::Run(run, _, _) => write_heading(rt, run),
-        Step::Propose(value) => write_number(rt, " propose", value as u64),
-        Step::Turn => write(rt, " turn:"),
-        Step::Opening(k, round, value) => write_statement(rt, k, " opens round", round, value),
-        Step::Ballot(k, round, value) => write_statement(rt, k, " votes in round", round, value),
-        Step::Suspect(k) => write_number(rt, " suspect board", k as u64),
-        Step::Trust(k) => write_number(rt, " trust board", k as u64),
-        Step::Announce(round, value) => write_value(rt, " announcement of round", round, value),
-        Step::Count(round, value) => write_value(rt, " accepted ballots of round", round, value),
-        Step::BlankRounds => write(
-            rt,
-            " in every round a blank ballot of board 1 and three turns",
-        ),
-    }
-}
-
 impl Seat {
-    fn with(mut self, board: Board) -> Seat {
-        self.board = board;
-        self
+    fn fresh(n: u8, me: u8) -> Seat {
+        Seat {
+            n,
+            me,
+            board: Board::fresh(),
+        }
     }
 
-    fn turn(self, rt: &HostRuntime, nothing: &str) -> io::Result<Seat> {
+    // With a board that votes in a round that there is not.
+    fn astray(n: u8, me: u8, stage: Stage) -> Seat {
+        let position = Position {
+            round: Round(250),
+            estimate: 9,
+            stage,
+            suspected: 0,
+        };
+        let board = Board {
+            position,
+            delivered: Delivered::fresh(),
+            status: Status::Voting,
+        };
+        Seat { n, me, board }
+    }
+
+    fn write_standing(&self, rt: &HostRuntime) -> io::Result<()> {
+        let standing = Standing {
+            position: self.board.position,
+            status: self.board.status,
+        };
+        print!(rt; "; {standing}\n")
+    }
+
+    // A turn; the given text stands for what the board signs, where that is nothing.
+    fn turn(&mut self, rt: &HostRuntime, nothing: &str) -> io::Result<()> {
+        let round = self.board.position.round;
         let turn = self.board.turn(self.n, self.me);
-        let answer = turn.answer;
-        write_number(rt, "", answer.number() as u64)?;
-        let signed = turn.signed;
-        write_signed(rt, signed, self.board.position.round, nothing)?;
-        Ok(self.with(turn.board))
+        self.board = turn.board;
+        match turn.answer {
+            Ok(()) => print!(rt; " 0")?,
+            Err(refusal) => print!(rt; " {}", refusal.number())?,
+        }
+        match turn.signed {
+            None => print!(rt; "{nothing}"),
+            Some(s) => print!(rt;
+                ", signs {} ({}) with {}",
+                s.id.0,
+                phase(s.id, round),
+                s.value
+            ),
+        }
     }
 
-    fn hear(self, speaker: u8, round: u8, phase: Phase, value: u16) -> Seat {
+    fn hear(&mut self, speaker: u8, round: u8, phase: Phase, value: u16) {
         let id = Round(round).identifier(phase);
-        self.with(self.board.deliver(Statement { speaker, id, value }))
+        self.board.deliver(Statement { speaker, id, value });
     }
 
-    // A round in which board 1 votes blank: three turns, on a line below that of the round before.
-    fn blank_round(self, rt: &HostRuntime, r: u8) -> io::Result<Seat> {
-        write_standing(rt, self.board)?;
-        write_number(rt, "   round", r as u64)?;
-        write(rt, ":")?;
-        let first = self.hear(1, r, Phase::Ballot, 0).turn(rt, "")?;
-        write(rt, " /")?;
-        let second = first.turn(rt, "")?;
-        write(rt, " /")?;
-        second.turn(rt, "")
-    }
-
-    fn blank_rounds(self, rt: &HostRuntime) -> io::Result<Seat> {
-        let mut seat = self;
-        let mut r = 0u8;
-        while r < Round::LAST {
-            r += 1;
-            seat = seat.blank_round(rt, r)?;
+    // In each round board 1 votes blank: three turns, on a line below that of the round before.
+    fn blank_rounds(&mut self, rt: &HostRuntime) -> io::Result<()> {
+        for r in 1..=Round::LAST {
+            self.write_standing(rt)?;
+            print!(rt; "   round {r}:")?;
+            self.hear(1, r, Phase::Ballot, 0);
+            self.turn(rt, "")?;
+            print!(rt; " /")?;
+            self.turn(rt, "")?;
+            print!(rt; " /")?;
+            self.turn(rt, "")?;
         }
-        Ok(seat)
+        Ok(())
     }
 
-    fn take(self, rt: &HostRuntime, step: Step) -> io::Result<Seat> {
-        let board = self.board;
+    fn take(&mut self, rt: &HostRuntime, step: Step) -> io::Result<()> {
         match step {
-            Step::Run(run, n, me) => {
-                let board = first_board(run);
-                Ok(Seat { n, me, board })
-            }
-            Step::Propose(value) => Ok(self.with(board.propose(value))),
-            Step::Turn => self.turn(rt, ", signs nothing"),
-            Step::Opening(k, round, value) => Ok(self.hear(k, round, Phase::Opening, value)),
-            Step::Ballot(k, round, value) => Ok(self.hear(k, round, Phase::Ballot, value)),
-            Step::Suspect(k) => Ok(self.with(board.suspect(k))),
-            Step::Trust(k) => Ok(self.with(board.trust(k))),
-            Step::Announce(round, value) => Ok(self.with(board.announce(
-                self.n,
-                Round(round),
-                value,
-            ))),
+            Step::Propose(value) => self.board.propose(value),
+            Step::Turn => self.turn(rt, ", signs nothing")?,
+            Step::Opening(k, round, value) => self.hear(k, round, Phase::Opening, value),
+            Step::Ballot(k, round, value) => self.hear(k, round, Phase::Ballot, value),
+            Step::Suspect(k) => self.board.suspect(k),
+            Step::Trust(k) => self.board.trust(k),
+            Step::Announce(round, value) => self.board.announce(self.n, Round(round), value),
             Step::Count(round, value) => {
-                write_number(rt, ":", board.tally(self.n, Round(round), value) as u64)?;
-                Ok(self)
+                print!(rt; ": {}", self.board.tally(self.n, Round(round), value))?;
             }
-            Step::BlankRounds => self.blank_rounds(rt),
+            Step::BlankRounds => self.blank_rounds(rt)?,
         }
-    }
-
-    // One line of the output; that of a heading has no number.
-    fn line(self, rt: &HostRuntime, number: u64, step: Step) -> io::Result<Seat> {
-        if number > 0 {
-            write_number(rt, "", number)?;
-        }
-        write_asked(rt, step)?;
-        let after = self.take(rt, step)?;
-        write_standing(rt, after.board)?;
-        Ok(after)
+        Ok(())
     }
 }
 
-fn play(rt: &HostRuntime, steps: [Step; COUNT]) -> io::Result<()> {
-    let board = Board::fresh();
-    let mut seat = Seat { n: 0, me: 0, board };
-    let mut number = 0u64;
-    let mut i = 0;
-    while i < steps.len() {
-        let step = steps[i];
-        match step {
-            Step::Run(_, _, _) => number = 0,
-            _ => number += 1,
-        }
-        seat = seat.line(rt, number, step)?;
-        i += 1;
+// One run: its name, and a line for each step.
+fn play(rt: &HostRuntime, name: &str, mut seat: Seat, steps: &[Step]) -> io::Result<()> {
+    print!(rt; "{name}")?;
+    seat.write_standing(rt)?;
+    for (i, step) in steps.iter().enumerate() {
+        print!(rt; " {} {step}", i + 1)?;
+        seat.take(rt, *step)?;
+        seat.write_standing(rt)?;
     }
     Ok(())
 }
 
 fn main(rt: HostRuntime) -> io::Result<()> {
-    write(
-        &rt,
-        "N not started; W voting, X spent: round, estimate, stage; D decided: round, value\n",
+    print!(rt;
+        "N not started; W voting, X spent: round, estimate, stage; D decided: round, value\n"
     )?;
-    play(&rt, STEPS)
+    play(
+        &rt,
+        "board 2 of 3 decides by its own turn",
+        Seat::fresh(3, 2),
+        OWN_TURN,
+    )?;
+    play(
+        &rt,
+        "the incident, at board 3 of 3",
+        Seat::fresh(3, 3),
+        INCIDENT,
+    )?;
+    play(
+        &rt,
+        "board 3 of 3, spent in the last round",
+        Seat::fresh(3, 3),
+        LAST_ROUND,
+    )?;
+    play(
+        &rt,
+        "board 2 of 3: an opening with the blank counts as delivered",
+        Seat::fresh(3, 2),
+        BLANK_OPENING,
+    )?;
+    play(
+        &rt,
+        "board 2 of 3: an accepted opening gets its value though its coordinator is suspected",
+        Seat::fresh(3, 2),
+        SUSPECTED,
+    )?;
+    play(&rt, "n = 1", Seat::fresh(1, 1), ALONE)?;
+    play(
+        &rt,
+        "numbers that no bus has: n = 0",
+        Seat::fresh(0, 1),
+        NO_BOARDS,
+    )?;
+    play(
+        &rt,
+        "numbers that no bus has: n = 200",
+        Seat::fresh(200, 1),
+        MANY_BOARDS,
+    )?;
+    play(
+        &rt,
+        "numbers that no bus has: round 250, n = 3",
+        Seat::astray(3, 1, Stage::Open),
+        NO_ROUND,
+    )?;
+    play(
+        &rt,
+        "numbers that no bus has: round 250, n = 0",
+        Seat::astray(0, 1, Stage::Count),
+        NEITHER,
+    )
 }
