@@ -7,7 +7,7 @@ use delivery::{Round, acceptance, store};
 use signer::Log;
 
 // The value of a round's opening where it is accepted; the blank otherwise.
-#[tactic(auto, using(crate::proofs::Rules::rules_ballots_opened_value), unfolding(crate::specs::Ballots::opened_value))]
+#[tactic(auto, unfolding(crate::specs::Ballots::opened_value))]
 pub fn opened_value(store: &[u32; store::PLACES], n: u8, round: Round) -> u16
     ensures { result ≡ opened_value limits n (heard_in limits store.now) round.0 }
 {
@@ -29,10 +29,7 @@ pub fn value_with(store: &[u32; store::PLACES], n: u8, round: Round, least: u8) 
         return Log::BLANK;
     }
     let backing = acceptance::count_bearing(store, n, round, Log::entry_of(value));
-    if backing == 0 {
-        return Log::BLANK;
-    }
-    if backing < least {
+    if backing == 0 || backing < least {
         return Log::BLANK;
     }
     value

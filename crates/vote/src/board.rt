@@ -119,7 +119,7 @@ impl Board {
     }
 
     // How many ballots of a round it accepts that bear a value.
-    #[tactic(auto, using(crate::proofs::Rules::rules_board_board_tally), unfolding(crate::specs::Ballots::tally))]
+    #[tactic(auto, using(delivery::proofs::SetLaws::count_set), unfolding(crate::specs::Ballots::tally))]
     pub fn tally(&self, n: u8, round: Round, value: u16) -> u8
         ensures { result ≡ tally limits n (heard limits self.now.delivered) round.0 value }
     {
