@@ -2,7 +2,7 @@ ghost use Rattle.std.specs.Prelude.{◌≡◌};
 ghost use Rattle.delivery.specs.Limits.{limits};
 ghost use Rattle.delivery.specs.Delivered.{heard};
 ghost use Rattle.vote.specs.Rule.{rule};
-ghost use Rattle.vote.specs.Turns.{turn_number, position_after, status_after, said_in, answer_to, refuse, take, turn};
+ghost use Rattle.vote.specs.Turns.{turn_number, turn_answer, position_after, status_after, said_in, answer_to, refuse, take, turn};
 
 use crate::board::{Board, Decision, Status};
 use crate::position::{Position, Stage};
@@ -32,6 +32,17 @@ impl Refusal {
         ensures { result ≡ turn_number self }
     {
         self as u8
+    }
+
+    // The number of an answer in that table: 0 where the turn is taken.
+    #[tactic(auto, unfolding(crate::specs::Turns::turn_answer))]
+    pub fn number_of(answer: Result<(), Refusal>) -> u8
+        ensures { result ≡ turn_answer answer }
+    {
+        match answer {
+            Ok(()) => 0,
+            Err(refusal) => refusal.number(),
+        }
     }
 }
 
