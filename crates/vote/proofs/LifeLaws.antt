@@ -6,6 +6,7 @@ use mathlib.Core.Bool.{true≢false}
 use mathlib.Core.List.{List, [], ◌∷◌}
 use mathlib.Core.Logic.{◌⊎◌, inl, inr, ⊎_elim}
 use Rattle.std.specs.Prelude.{Option, None, Some}
+use Rattle.std.proofs.lemmas.Option.{none-some}
 use Rattle.delivery.specs.Limits.{Limits}
 use Rattle.delivery.specs.Delivered.{Store, heard}
 use Rattle.delivery.specs.Sets.{with_board, without_board}
@@ -21,7 +22,7 @@ use Rattle.vote.specs.declared.board.Decision.{Decision}
 use Rattle.vote.specs.declared.board.Status.TheVariants.{Decided}
 use Rattle.vote.specs.declared.turn.Turn.{Turn}
 use Rattle.vote.proofs.StatusLaws.{started-decided, ended-decided, decided-decided, decided-one, voting-decided, spent-decided, idle-decided}
-use Rattle.vote.proofs.TurnLaws.{nothing-one, turned, Course, not_taken, passed, opened, balloted, decided, advanced, expired, turn-course, turn-ended}
+use Rattle.vote.proofs.TurnLaws.{turned, Course, not_taken, passed, opened, balloted, decided, advanced, expired, turn-course, turn-ended}
 use Rattle.vote.proofs.BoardLaws.{propose-started, propose-cases, hears-grows, deliver-hears, suspect-adds, trust-drops, adopted, announce-cases}
 use Rattle.vote.proofs.SigningLaws.{due, due-started, due-same, due-idle, turn-due, signed-past, signs-due, turn-signs}
 use Rattle.vote.proofs.ProperLaws.{Proper, fresh-proper, voting-round, called-proper}
@@ -223,12 +224,12 @@ module _ (L : Limits) (n me : ℕ) (b : Board) (p : Proper L b) where
 
   signed-next : (c : Call) (s : Statement) → signed_in L n me b c ≡ Some s → Signed-next c s
   unfolding called signed_in Signed-next
-  signed-next (proposal v) s e = absurd (nothing-one s e)
+  signed-next (proposal v) s e = absurd (none-some s e)
   signed-next own_turn s e = (signs-due L n me b s (turn-signs L n me b s e), signed-past L n me b s e (voting-round L b p))
-  signed-next (delivery x) s e = absurd (nothing-one s e)
-  signed-next (suspicion k) s e = absurd (nothing-one s e)
-  signed-next (restored-trust k) s e = absurd (nothing-one s e)
-  signed-next (announcement r v) s e = absurd (nothing-one s e)
+  signed-next (delivery x) s e = absurd (none-some s e)
+  signed-next (suspicion k) s e = absurd (none-some s e)
+  signed-next (restored-trust k) s e = absurd (none-some s e)
+  signed-next (announcement r v) s e = absurd (none-some s e)
 
   put-rising : (c : Call) (x : Option Statement) (ss : List Statement) → signed_in L n me b c ≡ x → Rising (due L (called L n me b c)) ss
       → Rising (due L b) (put x ss)

@@ -5,6 +5,7 @@ use native.Mathlib.Nat.{le_of_lt}
 use mathlib.Core.Path.{◌≡◌, refl, sym, ap, subst, ◌∙◌}
 use mathlib.Core.Bool.{true, false, true≢false}
 use Rattle.std.specs.Prelude.{None, Some}
+use Rattle.std.proofs.lemmas.Option.{none-some, same_Some}
 use Rattle.signer.proofs.FromOneLaws.{within_in}
 use Rattle.delivery.specs.Limits.{Limits}
 use Rattle.delivery.specs.Rounds.{is_round, coordinator, identifier_of}
@@ -22,7 +23,7 @@ use Rattle.vote.specs.declared.board.Board.{Board}
 use Rattle.vote.specs.declared.board.Status.{Status}
 use Rattle.vote.specs.declared.board.Status.TheVariants.{Idle, Voting, Spent, Decided}
 use Rattle.vote.specs.declared.turn.Turn.{Turn}
-use Rattle.vote.proofs.TurnLaws.{nothing-one, one-statement, done, Course, not_taken, passed, opened, balloted, decided, advanced, expired, turn-course}
+use Rattle.vote.proofs.TurnLaws.{done, Course, not_taken, passed, opened, balloted, decided, advanced, expired, turn-course}
 
 -- What board `me` signs in its turn: the opening of its round with its estimate, as its coordinator, at stage A; the
 -- round's ballot at stage B.
@@ -138,8 +139,8 @@ module _ (L : Limits) (n me : ℕ) (b : Board) where
   turn-signs s e = go turn-speech
     where
       go : Speech (turn L n me b) → Signs L n me b s
-      go (silent i d) = absurd (nothing-one s (sym i ∙ e))
-      go (speaks x w i d l) = subst (Signs L n me b) (one-statement x s (sym i ∙ e)) w
+      go (silent i d) = absurd (none-some s (sym i ∙ e))
+      go (speaks x w i d l) = subst (Signs L n me b) (same_Some x s (sym i ∙ e)) w
 
   pub signed-past : (s : Statement) → (turn L n me b).signed ≡ Some s → (b.status ≡ Voting → is_round L r ≡ true)
       → s.id.0 < due L (turn L n me b).board
@@ -150,7 +151,7 @@ module _ (L : Limits) (n me : ℕ) (b : Board) where
       voting (signs-ballot v g k) = v
 
       go : Speech (turn L n me b) → s.id.0 < due L (turn L n me b).board
-      go (silent k d) = absurd (nothing-one s (sym k ∙ e))
+      go (silent k d) = absurd (none-some s (sym k ∙ e))
       go (speaks x w k d l) =
           let o : s.id.0 ≡ due L b = signs-due s (turn-signs s e) in
           omega (arith, o, l (i (voting (turn-signs s e))))

@@ -4,7 +4,7 @@ use mathlib.Core.Path.{◌≡◌, refl, sym, ap, subst⁻¹, ◌∙◌}
 use mathlib.Core.Bool.{Bool, true, false, true≢false}
 use mathlib.Core.Logic.{◌⊎◌, inl, inr}
 use native.Mathlib.Omega.{arith}
-use Rattle.std.specs.Prelude.{Option, None, Some, Result, Ok, Err}
+use Rattle.std.specs.Prelude.{None, Some, Result, Ok, Err}
 use Rattle.delivery.specs.Limits.{Limits}
 use Rattle.delivery.specs.Rounds.{coordinator, next_round}
 use Rattle.delivery.specs.Delivered.{Store, heard}
@@ -31,23 +31,6 @@ use Rattle.vote.specs.declared.turn.Refusal.TheVariants.{NotStarted, Ended, Wait
 use Rattle.vote.specs.declared.turn.Turn.{Turn}
 use Rattle.vote.proofs.StatusLaws.{ended-spent, ended-decided}
 use Rattle.vote.proofs.RuleLaws.{MayCount, Next, Acts, passes, opens, ballots, decides, advances, expires, rule-acts, next-origin}
-
--- something said is not nothing, and is one statement
-speaks : Option Statement → Bool
-speaks None = false
-speaks (Some s) = true
-
-pub nothing-one : (s : Statement) → None ≡ Some s → ⊥
-unfolding speaks
-nothing-one s e = true≢false (sym (ap speaks e))
-
-content : Statement → Option Statement → Statement
-content x None = x
-content x (Some s) = s
-
-pub one-statement : (s s' : Statement) → Some s ≡ Some s' → s ≡ s'
-unfolding content
-one-statement s s' e = ap (content s) e
 
 -- a board with another round, estimate, stage, store and status; whom it suspects is the same
 abbrev pub placed : Board → Round → ℕ → Stage → Delivered → Status → Board
