@@ -1,25 +1,26 @@
 -- Laws of the rule of a turn: what it says at each stage, and what is known of a board that makes a move. Assumes
 -- nothing.
-use Prim.Native.Nat.{ℕ, ◌≤◌, ◌<◌}
+use Prim.Native.Nat.{ℕ, ◌≤◌, ◌<◌, ◌^◌}
 use native.Mathlib.Omega.{arith}
 use native.Mathlib.Decide.{ℕ_discrete, dec_lt}
 use borrow.Author.Tests.{eq-eqb, ne_eqb, le-leb, lt-leb, leb-true, lt-ltb, le-ltb}
-use mathlib.Core.Path.{◌≡◌, refl, ap, subst, subst⁻¹, ◌∙◌}
+use mathlib.Core.Path.{◌≡◌, refl, sym, ap, subst, subst⁻¹, ◌∙◌}
 use mathlib.Core.Bool.{Bool, true, false}
 use mathlib.Core.Logic.{◌⊎◌, inl, inr, ⊎_elim}
 use lib.Dec.{eqb, leb, ltb}
 use Rattle.std.specs.Prelude.{if◌then◌else◌}
 use Rattle.signer.proofs.ConditionalLaws.{if-true, if-false}
-use Rattle.delivery.specs.Tests.{◌or◌, neg}
+use Rattle.delivery.specs.Tests.{◌and◌, ◌or◌, neg}
 use Rattle.delivery.specs.Counting.{count_in, every_in}
 use Rattle.delivery.specs.Limits.{Limits}
 use Rattle.delivery.specs.Bus.{quorum, overlap}
 use Rattle.delivery.specs.Rounds.{coordinator}
-use Rattle.delivery.specs.Sets.{in_set}
+use Rattle.delivery.specs.Sets.{in_set, set_of, bits, union}
 use Rattle.delivery.specs.Delivered.{Store}
 use Rattle.delivery.specs.Acceptance.{opening_entry, accepts_opening, accepts_some}
 use Rattle.delivery.proofs.TestLaws.{and_left, and_right, and-no-left, and-yes-left, neg-no, or_cases, or_left, or_right, or-no-left, decided}
-use Rattle.delivery.proofs.CountLaws.{every-reads, reads-every}
+use Rattle.delivery.proofs.CountLaws.{every-reads, reads-every, count-cong, every-counted}
+use Rattle.delivery.proofs.SetLaws.{count_set, in-set_of-within, in_either}
 use Rattle.delivery.proofs.OneRoundLaws.{value-some}
 use Rattle.delivery.proofs.AgreementLaws.{Won}
 use Rattle.vote.specs.Ballots.{opened_value}
@@ -98,6 +99,32 @@ module _ (L : Limits) (n : ℕ) (p : Position) (h : Store) where
   unfolding may_count
   count-enough l =
       and-yes-left (leb (quorum n) (count_in n (accepts_some L n h r))) (every_in n present) (le-leb (quorum n) (count_in n (accepts_some L n h r)) l)
+
+  -- the same by sets, as the program counts: m is that of the boards with an accepted ballot
+  pub count-few_in : (m : ℕ) → m ≡ set_of n (accepts_some L n h r) → count_in n (in_set m) < quorum n → may_count L n p h ≡ false
+  count-few_in m e l =
+      let a = accepts_some L n h r in
+      let c : count_in n (in_set m) ≡ count_in n a = ap (λ (s : ℕ). count_in n (in_set s)) e ∙ count_set n n a (omega arith) in
+      count-few (omega (arith, c))
+
+  pub count-enough_in : (m : ℕ) → m ≡ set_of n (accepts_some L n h r) → m < 2 ^ bits → p.suspected < 2 ^ bits
+      → quorum n ≤ count_in n (in_set m)
+      → may_count L n p h ≡ eqb (count_in n (in_set (union m p.suspected))) n
+  count-enough_in m e x y l =
+      let a = accepts_some L n h r in
+      let c : count_in n (in_set m) ≡ count_in n a = ap (λ (s : ℕ). count_in n (in_set s)) e ∙ count_set n n a (omega arith) in
+      count-enough (omega (arith, c))
+      ∙ every-counted n present
+      ∙ ap
+      (λ (c : ℕ). eqb c n)
+      (count-cong
+      n
+      present
+      (in_set (union m p.suspected))
+      (λ k l u.
+      sym
+      (in_either m p.suspected k x y l
+      ∙ ap (λ (b : Bool). b or in_set p.suspected k) (ap (λ (s : ℕ). in_set s k) e ∙ in-set_of-within n a k l u))))
 
   pub reads-count : MayCount → may_count L n p h ≡ true
   reads-count m =

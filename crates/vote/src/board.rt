@@ -7,11 +7,11 @@ ghost use Rattle.vote.specs.Announcements.{announce};
 
 use crate::position::Position;
 use crate::statement::Statement;
-use delivery::{Delivered, Round, bus, set};
+use delivery::{Delivered, Round, bus};
 use signer::Log;
 
 // What a board decided, and in which round.
-#[derive(Clone, Copy)]
+#[derive(Clone, Copy, Debug, PartialEq, Eq)]
 pub struct Decision {
     pub round: Round,
     pub value: u16,
@@ -19,7 +19,7 @@ pub struct Decision {
 
 // How far a board is: not started; voting; spent, document 01's word for one that the last round left undecided; or
 // decided.
-#[derive(Clone, Copy)]
+#[derive(Clone, Copy, Debug, PartialEq, Eq)]
 pub enum Status {
     Idle,
     Voting,
@@ -75,10 +75,7 @@ impl Board {
     pub fn has_decided(&self, round: Round, value: u16) -> bool
         ensures { result ≡ has_decided self.now.status round.0 value }
     {
-        match self.status {
-            Status::Decided(decision) => { decision.round.0 == round.0 && decision.value == value }
-            _ => false,
-        }
+        self.status == Status::Decided(Decision { round, value })
     }
 
     // Starts the vote with this value; nothing changes if it has started, or if the value is the blank.
@@ -97,8 +94,7 @@ impl Board {
     pub fn deliver(&mut self, statement: Statement)
         ensures { self.new ≡ deliver_to limits self.old statement }
     {
-        self.delivered = self
-            .delivered
+        self.delivered
             .deliver(statement.speaker, statement.id, statement.value);
     }
 
@@ -107,7 +103,7 @@ impl Board {
     pub fn suspect(&mut self, k: u8)
         ensures { self.new ≡ suspect self.old k }
     {
-        self.position.suspected = set::with(self.position.suspected, k);
+        self.position.suspected.insert(k);
     }
 
     // It no longer does.
@@ -115,7 +111,7 @@ impl Board {
     pub fn trust(&mut self, k: u8)
         ensures { self.new ≡ trust self.old k }
     {
-        self.position.suspected = set::without(self.position.suspected, k);
+        self.position.suspected.remove(k);
     }
 
     // How many ballots of a round it accepts that bear a value.
@@ -123,7 +119,7 @@ impl Board {
     pub fn tally(&self, n: u8, round: Round, value: u16) -> u8
         ensures { result ≡ tally limits n (heard limits self.now.delivered) round.0 value }
     {
-        set::count(self.delivered.ballots_for(n, round, value), n)
+        self.delivered.poll(n, round).ballots_for(value).count(n)
     }
 
     // An announcement that another board decided a value in a round. The board decides the same if its own ballots bear

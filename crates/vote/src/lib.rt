@@ -2,7 +2,6 @@
 // are and which of them it is, and knows nothing of the bench; its statements are signed by whoever calls.
 #![tactic(auto)]
 
-mod ballots;
 mod board;
 mod position;
 mod rule;

@@ -1,7 +1,7 @@
 ghost use Rattle.std.specs.Prelude.{◌≡◌};
 ghost use Rattle.vote.specs.Boards.{fresh_position, starting_with};
 
-use delivery::Round;
+use delivery::{BoardSet, Round};
 
 // What a board does next in its round; document 01 calls these A, B and C.
 #[derive(Clone, Copy, Debug, PartialEq, Eq)]
@@ -12,12 +12,12 @@ pub enum Stage {
 }
 
 // Where a board stands in the vote: what its next turn goes by, beside what it has delivered.
-#[derive(Clone, Copy)]
+#[derive(Clone, Copy, Debug, PartialEq, Eq)]
 pub struct Position {
     pub round: Round,
     pub estimate: u16,
     pub stage: Stage,
-    pub suspected: u16,
+    pub suspected: BoardSet,
 }
 
 impl Position {
@@ -29,7 +29,7 @@ impl Position {
             round: Round(0),
             estimate: 0,
             stage: Stage::Open,
-            suspected: 0,
+            suspected: BoardSet::empty(),
         }
     }
 

@@ -1,11 +1,11 @@
 ghost use Rattle.std.specs.Prelude.{◌≡◌};
 ghost use Rattle.delivery.specs.Limits.{limits};
 ghost use Rattle.delivery.specs.Delivered.{heard};
+ghost use Rattle.vote.specs.Ballots.{opened_value, value_with};
 ghost use Rattle.vote.specs.Rule.{open_move, may_vote, vote_move, may_count, next_estimate, onward, count_move, rule};
 
-use crate::ballots;
 use crate::position::{Position, Stage};
-use delivery::{Delivered, Round, acceptance, bus, set};
+use delivery::{Delivered, Poll, Round, bus};
 use signer::Log;
 
 // What a board does in a turn: it waits; passes, not being coordinator; opens with its estimate; gives a ballot with a
@@ -30,6 +30,42 @@ struct Outlook<'a> {
 }
 
 impl<'a> Outlook<'a> {
+    // The board's round, as it has heard it.
+    fn poll(&self) -> Poll<'_>
+        ensures { result ≡ record { delivered = self.now.delivered.now; n = self.now.n; round = self.now.position.round.0 } }
+    {
+        self.delivered.poll(self.n, self.position.round)
+    }
+
+    // The value of the round's opening where it is accepted; the blank otherwise.
+    #[tactic(auto, unfolding(crate::specs::Ballots::opened_value))]
+    fn opened_value(&self) -> u16
+        ensures { result ≡ opened_value limits self.now.n (heard limits self.now.delivered.now) self.now.position.round.0 }
+    {
+        let value = Log::value_of(self.poll().opening());
+        if self.poll().accepts_opening(value) {
+            return value;
+        }
+        Log::BLANK
+    }
+
+    // The value that so many accepted ballots of the round bear, or more; the blank where there is none. Only the
+    // opening's value can be it, and where that is accepted so is each ballot that bears it.
+    #[tactic(auto, using(crate::proofs::Rules::rules_rule_outlook_value_with))]
+    fn value_with(&self, least: u8) -> u16
+        ensures { result ≡ value_with limits self.now.n (heard limits self.now.delivered.now) self.now.position.round.0 least }
+    {
+        let value = self.opened_value();
+        if value == Log::BLANK {
+            return Log::BLANK;
+        }
+        let backing = self.poll().count_bearing(Log::entry_of(value));
+        if backing == 0 || backing < least {
+            return Log::BLANK;
+        }
+        value
+    }
+
     // Stage A.
     #[tactic(auto, unfolding(crate::specs::Rule::open_move))]
     fn open_move(&self, me: u8) -> Move
@@ -46,9 +82,8 @@ impl<'a> Outlook<'a> {
     fn may_vote(&self) -> bool
         ensures { result ≡ may_vote limits self.now.n self.now.position (heard limits self.now.delivered.now) }
     {
-        let round = self.position.round;
-        acceptance::opening(&self.delivered.entries, self.n, round) != 0
-            || set::has(self.position.suspected, round.coordinator(self.n))
+        let coordinator = self.position.round.coordinator(self.n);
+        self.poll().opening() != 0 || self.position.suspected.contains(coordinator)
     }
 
     // Stage B.
@@ -59,7 +94,7 @@ impl<'a> Outlook<'a> {
         if !self.may_vote() {
             return Move::Waits;
         }
-        Move::Ballots(ballots::opened_value(&self.delivered.entries, self.n, self.position.round))
+        Move::Ballots(self.opened_value())
     }
 
     // Whether the board may count: a quorum has ballots, and every board without one is suspected.
@@ -67,9 +102,12 @@ impl<'a> Outlook<'a> {
     fn may_count(&self) -> bool
         ensures { result ≡ may_count limits self.now.n self.now.position (heard limits self.now.delivered.now) }
     {
-        let ballots = acceptance::ballots(&self.delivered.entries, self.n, self.position.round);
-        set::count(ballots, self.n) >= bus::quorum(self.n)
-            && set::count(set::union(ballots, self.position.suspected), self.n) == self.n
+        let ballots = self.poll().ballots();
+        let suspected = self.position.suspected;
+        // that a set has no bits above these only its mask tells
+        let (_, _) = (ballots.bits(), suspected.bits());
+        ballots.count(self.n) >= bus::quorum(self.n)
+            && ballots.union(suspected).count(self.n) == self.n
     }
 
     // The estimate that the round leaves the board with.
@@ -77,12 +115,7 @@ impl<'a> Outlook<'a> {
     fn next_estimate(&self) -> u16
         ensures { result ≡ next_estimate limits self.now.n self.now.position (heard limits self.now.delivered.now) }
     {
-        let carried = ballots::value_with(
-            &self.delivered.entries,
-            self.n,
-            self.position.round,
-            bus::overlap(self.n),
-        );
+        let carried = self.value_with(bus::overlap(self.n));
         if carried == Log::BLANK {
             return self.position.estimate;
         }
@@ -109,12 +142,7 @@ impl<'a> Outlook<'a> {
         if !self.may_count() {
             return Move::Waits;
         }
-        let chosen = ballots::value_with(
-            &self.delivered.entries,
-            self.n,
-            self.position.round,
-            bus::quorum(self.n),
-        );
+        let chosen = self.value_with(bus::quorum(self.n));
         if chosen == Log::BLANK {
             return self.onward();
         }

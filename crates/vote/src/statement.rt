@@ -1,7 +1,7 @@
 use signer::Identifier;
 
 // What a speaker says under an identifier.
-#[derive(Clone, Copy)]
+#[derive(Clone, Copy, Debug, PartialEq, Eq)]
 pub struct Statement {
     pub speaker: u8,
     pub id: Identifier,
