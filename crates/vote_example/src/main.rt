@@ -2,7 +2,7 @@
 // its answer and what the board signed, and how the board stands then.
 #![tactic(auto)]
 
-use delivery::{Delivered, Phase, Round};
+use delivery::{BoardSet, Delivered, Phase, Round};
 use signer::Identifier;
 use std::{fmt, io};
 use vote::{Board, Position, Refusal, Stage, Statement, Status};
@@ -217,7 +217,7 @@ impl Seat {
             round: Round(250),
             estimate: 9,
             stage,
-            suspected: 0,
+            suspected: BoardSet::empty(),
         };
         let board = Board {
             position,
