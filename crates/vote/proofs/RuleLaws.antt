@@ -1,6 +1,6 @@
 -- Laws of the rule of a turn: what it says at each stage, and what is known of a board that makes a move. Assumes
 -- nothing.
-use Prim.Native.Nat.{ℕ, ◌≤◌, ◌<◌, ◌^◌}
+use Prim.Native.Nat.{ℕ, ◌≤◌, ◌<◌, ◌*◌}
 use native.Mathlib.Omega.{arith}
 use native.Mathlib.Decide.{ℕ_discrete, dec_lt}
 use borrow.Author.Tests.{eq-eqb, ne_eqb, le-leb, lt-leb, leb-true, lt-ltb, le-ltb}
@@ -8,21 +8,26 @@ use mathlib.Core.Path.{◌≡◌, refl, sym, ap, subst, subst⁻¹, ◌∙◌}
 use mathlib.Core.Bool.{Bool, true, false}
 use mathlib.Core.Logic.{◌⊎◌, inl, inr, ⊎_elim}
 use lib.Dec.{eqb, leb, ltb}
-use Rattle.std.specs.Prelude.{if◌then◌else◌}
+use Rattle.std.specs.Prelude.{if◌then◌else◌, min}
 use Rattle.signer.proofs.ConditionalLaws.{if-true, if-false}
+use Rattle.signer.proofs.FromOneLaws.{within-high}
 use Rattle.delivery.specs.Tests.{◌and◌, ◌or◌, neg}
 use Rattle.delivery.specs.Counting.{count_in, every_in}
 use Rattle.delivery.specs.Limits.{Limits}
-use Rattle.delivery.specs.Bus.{quorum, overlap}
-use Rattle.delivery.specs.Rounds.{coordinator}
+use Rattle.delivery.specs.Bus.{is_board, quorum, overlap}
+use Rattle.delivery.specs.Rounds.{coordinator, identifier_of}
 use Rattle.delivery.specs.Sets.{in_set, set_of, bits, union}
-use Rattle.delivery.specs.Delivered.{Store}
+use Rattle.delivery.specs.Delivered.{Store, heard}
 use Rattle.delivery.specs.Acceptance.{opening_entry, accepts_opening, accepts_some}
-use Rattle.delivery.proofs.TestLaws.{and_left, and_right, and-no-left, and-yes-left, neg-no, or_cases, or_left, or_right, or-no-left, decided}
-use Rattle.delivery.proofs.CountLaws.{every-reads, reads-every, count-cong, every-counted}
-use Rattle.delivery.proofs.SetLaws.{count_set, in-set_of-within, in_either}
+use Rattle.delivery.proofs.TestLaws.{and_left, and_right, and-no-left, and-yes-left, fails, neg-no, or_cases, or_left, or_right, or-no-left, decided}
+use Rattle.delivery.proofs.AllRoundsLaws.{accepted-reads, ballot-reads}
+use Rattle.delivery.proofs.CountLaws.{every-reads, reads-every, count-cong, count-le, every-counted}
+use Rattle.delivery.proofs.DeliveredLaws.{heard-nobody}
+use Rattle.delivery.proofs.SetLaws.{count_set, in-set_of-within, in-union, set_beyond}
 use Rattle.delivery.proofs.OneRoundLaws.{value-some}
 use Rattle.delivery.proofs.AgreementLaws.{Won}
+use Rattle.delivery.specs.declared.delivered.Delivered.{Delivered}
+use Rattle.delivery.specs.declared.round.Phase.TheVariants.{Ballot}
 use Rattle.vote.specs.Ballots.{opened_value}
 use Rattle.vote.specs.Rule.{open_move, may_vote, vote_move, may_count, chosen, carried, next_estimate, onward, count_move, move_at, rule}
 use Rattle.vote.specs.declared.position.Position.{Position}
@@ -100,32 +105,6 @@ module _ (L : Limits) (n : ℕ) (p : Position) (h : Store) where
   count-enough l =
       and-yes-left (leb (quorum n) (count_in n (accepts_some L n h r))) (every_in n present) (le-leb (quorum n) (count_in n (accepts_some L n h r)) l)
 
-  -- the same by sets, as the program counts: m is that of the boards with an accepted ballot
-  pub count-few_in : (m : ℕ) → m ≡ set_of n (accepts_some L n h r) → count_in n (in_set m) < quorum n → may_count L n p h ≡ false
-  count-few_in m e l =
-      let a = accepts_some L n h r in
-      let c : count_in n (in_set m) ≡ count_in n a = ap (λ (s : ℕ). count_in n (in_set s)) e ∙ count_set n n a (omega arith) in
-      count-few (omega (arith, c))
-
-  pub count-enough_in : (m : ℕ) → m ≡ set_of n (accepts_some L n h r) → m < 2 ^ bits → p.suspected < 2 ^ bits
-      → quorum n ≤ count_in n (in_set m)
-      → may_count L n p h ≡ eqb (count_in n (in_set (union m p.suspected))) n
-  count-enough_in m e x y l =
-      let a = accepts_some L n h r in
-      let c : count_in n (in_set m) ≡ count_in n a = ap (λ (s : ℕ). count_in n (in_set s)) e ∙ count_set n n a (omega arith) in
-      count-enough (omega (arith, c))
-      ∙ every-counted n present
-      ∙ ap
-      (λ (c : ℕ). eqb c n)
-      (count-cong
-      n
-      present
-      (in_set (union m p.suspected))
-      (λ k l u.
-      sym
-      (in_either m p.suspected k x y l
-      ∙ ap (λ (b : Bool). b or in_set p.suspected k) (ap (λ (s : ℕ). in_set s k) e ∙ in-set_of-within n a k l u))))
-
   pub reads-count : MayCount → may_count L n p h ≡ true
   reads-count m =
       count-enough m.enough
@@ -174,6 +153,51 @@ module _ (L : Limits) (n : ℕ) (p : Position) (h : Store) where
   count-decides t z =
       if-true (may_count L n p h) outcome Waits t
       ∙ if-false (eqb (chosen L n p h) 0) (onward L n p h) (Decides (chosen L n p h)) (ne_eqb (chosen L n p h) 0 z)
+
+-- The same by sets, as the program counts: m is that of the boards with an accepted ballot. Only boards that there can be
+-- have one, so where a quorum has there are no more boards than a set has bits.
+module _ (L : Limits) (n : ℕ) (p : Position) (d : Delivered) (m : ℕ) where
+  abbrev accepted : ℕ → Bool
+  accepted = accepts_some L n (heard L d) p.round.0
+
+  accepted-board : (s : ℕ) → L.boards < s → accepted s ≡ false
+  accepted-board s l =
+      fails
+      (accepted s)
+      (λ b.
+      let a = accepted-reads L n (heard L d) p.round.0 s b in
+      let x = heard-nobody L d.entries s (identifier_of L Ballot p.round.0) (fails (is_board L s) (λ k. omega (arith, within-high L.boards s k))) in
+      omega (arith, (ballot-reads L n (heard L d) p.round.0 s a.0 a.1).said, x))
+
+  counted : m ≡ set_of n accepted → count_in n (in_set m) ≡ count_in n accepted
+  counted e = ap (λ (s : ℕ). count_in n (in_set s)) e ∙ count_set n n accepted (omega arith)
+
+  few-accepted : m ≡ set_of n accepted → count_in n (in_set m) ≤ L.boards
+  few-accepted e =
+      let k = min n L.boards in
+      let c : count_in n (in_set m) ≡ count_in k accepted =
+      ap (λ (s : ℕ). count_in n (in_set s)) (e ∙ set_beyond n L.boards accepted accepted-board) ∙ count_set n k accepted (omega arith) in
+      omega (arith, c, count-le k accepted)
+
+  pub count-few_in : m ≡ set_of n accepted → count_in n (in_set m) < quorum n → may_count L n p (heard L d) ≡ false
+  count-few_in e l = count-few L n p (heard L d) (omega (arith, counted e))
+
+  pub count-enough_in : 2 * L.boards ≤ bits → m ≡ set_of n accepted → quorum n ≤ count_in n (in_set m)
+      → may_count L n p (heard L d) ≡ eqb (count_in n (in_set (union m p.suspected))) n
+  count-enough_in b e l =
+      let fits : n ≤ bits = omega (arith, few-accepted e) in
+      count-enough L n p (heard L d) (omega (arith, counted e))
+      ∙ every-counted n _
+      ∙ ap
+      (λ (c : ℕ). eqb c n)
+      (count-cong
+      n
+      _
+      (in_set (union m p.suspected))
+      (λ k g u.
+      sym
+      (in-union m p.suspected k g (omega arith)
+      ∙ ap (λ (t : Bool). t or in_set p.suspected k) (ap (λ (s : ℕ). in_set s k) e ∙ in-set_of-within n accepted k g u))))
 
 module _ (L : Limits) (n me : ℕ) (p : Position) (h : Store) where
   -- the move at each stage

@@ -103,11 +103,8 @@ impl<'a> Outlook<'a> {
         ensures { result ≡ may_count limits self.now.n self.now.position (heard limits self.now.delivered.now) }
     {
         let ballots = self.poll().ballots();
-        let suspected = self.position.suspected;
-        // that a set has no bits above these only its mask tells
-        let (_, _) = (ballots.bits(), suspected.bits());
         ballots.count(self.n) >= bus::quorum(self.n)
-            && ballots.union(suspected).count(self.n) == self.n
+            && ballots.union(self.position.suspected).count(self.n) == self.n
     }
 
     // The estimate that the round leaves the board with.
