@@ -11,7 +11,7 @@ use lib.Dec.{eqb, leb, ltb}
 use Rattle.std.specs.Prelude.{if◌then◌else◌, min}
 use Rattle.signer.proofs.ConditionalLaws.{if-true, if-false}
 use Rattle.signer.proofs.FromOneLaws.{within-high}
-use Rattle.delivery.specs.Tests.{◌and◌, ◌or◌, neg}
+use Rattle.delivery.specs.Tests.{◌or◌, neg}
 use Rattle.delivery.specs.Counting.{count_in, every_in}
 use Rattle.delivery.specs.Limits.{Limits}
 use Rattle.delivery.specs.Bus.{is_board, quorum, overlap}
