@@ -2,26 +2,26 @@
 use Prim.Native.Nat.{◌≤◌}
 use native.Mathlib.Omega.{arith}
 use borrow.Author.Tests.{eqb-true, eqb-false, ne_eqb}
-use mathlib.Core.Path.{◌≡◌, refl}
+use mathlib.Core.Path.{◌≡◌, refl, ap, ◌∙◌}
 use mathlib.Core.Bool.{true, false}
+use Rattle.std.specs.Prelude.{Result, Ok, Err}
 use mathlib.Core.Logic.{◌⊎◌, inl, inr, ⊎_elim}
 use Rattle.signer.proofs.ConditionalLaws.{if-true, if-false}
 use Rattle.delivery.specs.Limits.{Limits}
 use Rattle.delivery.proofs.TestLaws.{decided}
 use Rattle.vote.specs.Turns.{turn_number}
 use Rattle.vote.proofs.TurnLaws.{number-within, number-some, idle-not, ended-not, waiting-not}
-use Rattle.vote.specs.declared.turn.Answer.TheVariants.{Done, NotStarted, Ended, Waiting}
-use Rattle.bench.specs.Answers.{fresh_number, answer_number, is_accepted}
+use Rattle.vote.specs.declared.turn.Answer.TheVariants.{NotStarted, Ended, Waiting}
+use Rattle.bench.specs.Answers.{fault_number, fresh_number, refusal_number, answer_number, is_accepted}
 use Rattle.bench.specs.Table.{check_of}
 use Rattle.bench.specs.Effects.{effect_of, step_of}
 use Rattle.bench.specs.Demands.{IsEventRow}
 use Rattle.bench.specs.declared.bench.Bench.{Bench}
-use Rattle.bench.specs.declared.answer.FreshAnswer.{FreshAnswer}
-use Rattle.bench.specs.declared.answer.FreshAnswer.TheVariants.{Made, NoBus, NoMark}
+use Rattle.bench.specs.declared.answer.SetupFault.{SetupFault}
+use Rattle.bench.specs.declared.answer.SetupFault.TheVariants.{NoBus, NoMark}
 use Rattle.bench.specs.declared.event.Event.{Event}
-use Rattle.bench.specs.declared.answer.Answer.{Answer}
-use Rattle.bench.specs.declared.answer.Answer.TheVariants.{
-  Accepted,
+use Rattle.bench.specs.declared.answer.Refusal.{Refusal}
+use Rattle.bench.specs.declared.answer.Refusal.TheVariants.{
   NoKind,
   NoBoard,
   WrongField,
@@ -37,18 +37,43 @@ use Rattle.bench.specs.declared.answer.Answer.TheVariants.{
   MustWait,
 }
 
--- what a board answers to a turn that it does not take refuses the event
-pub start-refused : is_accepted WrongStart ≡ false
-unfolding is_accepted answer_number
-start-refused = ne_eqb (turn_number NotStarted) 0 (λ e. idle-not (number-some NotStarted e))
+-- what a board answers to a turn that it does not take has another number than 0
+start-refused : refusal_number WrongStart ≡ 0 → ⊥
+unfolding refusal_number
+start-refused e = idle-not (number-some NotStarted e)
 
-pub end_refused : is_accepted AtEnd ≡ false
-unfolding is_accepted answer_number
-end_refused = ne_eqb (turn_number Ended) 0 (λ e. ended-not (number-some Ended e))
+end_refused : refusal_number AtEnd ≡ 0 → ⊥
+unfolding refusal_number
+end_refused e = ended-not (number-some Ended e)
 
-pub wait-refused : is_accepted MustWait ≡ false
+wait-refused : refusal_number MustWait ≡ 0 → ⊥
+unfolding refusal_number
+wait-refused e = waiting-not (number-some Waiting e)
+
+-- an event is accepted where no row applies, and where one does it is refused
+pub accepted-so : (u : Unit {0}) → is_accepted (Ok u) ≡ true
 unfolding is_accepted answer_number
-wait-refused = ne_eqb (turn_number Waiting) 0 (λ e. waiting-not (number-some Waiting e))
+accepted-so u = refl
+
+refusal-some : (r : Refusal) → refusal_number r ≡ 0 → ⊥
+unfolding refusal_number
+refusal-some NoKind e = omega (arith, e)
+refusal-some NoBoard e = omega (arith, e)
+refusal-some WrongField e = omega (arith, e)
+refusal-some WrongMark e = omega (arith, e)
+refusal-some SameBoard e = omega (arith, e)
+refusal-some WrongStart e = start-refused e
+refusal-some AtEnd e = end_refused e
+refusal-some NotSigned e = omega (arith, e)
+refusal-some NotAbove e = omega (arith, e)
+refusal-some AlreadyDelivered e = omega (arith, e)
+refusal-some NotDecided e = omega (arith, e)
+refusal-some FewBallots e = omega (arith, e)
+refusal-some MustWait e = wait-refused e
+
+pub refused-so : (r : Refusal) → is_accepted (Err r) ≡ false
+unfolding is_accepted answer_number
+refused-so r = ne_eqb (refusal_number r) 0 (refusal-some r)
 
 -- an accepted event has its effect and is answered 0; a refused one leaves the bench as it was, and is not answered 0
 module _ (L : Limits) (c : Bench) (e : Event) where
@@ -68,36 +93,53 @@ module _ (L : Limits) (c : Bench) (e : Event) where
     eqb-false (answer_number (check_of L c e)) 0 f,
   )
 
--- every answer's number is 0 or that of a row
-pub answer-within : (a : Answer) → (answer_number a ≡ 0) ⊎ IsEventRow (answer_number a)
-unfolding answer_number
-answer-within Accepted = number-within Done
-answer-within NoKind = inr (omega arith, omega arith)
-answer-within NoBoard = inr (omega arith, omega arith)
-answer-within WrongField = inr (omega arith, omega arith)
-answer-within WrongMark = inr (omega arith, omega arith)
-answer-within SameBoard = inr (omega arith, omega arith)
-answer-within WrongStart = number-within NotStarted
-answer-within AtEnd = number-within Ended
-answer-within NotSigned = inr (omega arith, omega arith)
-answer-within NotAbove = inr (omega arith, omega arith)
-answer-within AlreadyDelivered = inr (omega arith, omega arith)
-answer-within NotDecided = inr (omega arith, omega arith)
-answer-within FewBallots = inr (omega arith, omega arith)
-answer-within MustWait = number-within Waiting
+-- so the bench after an event is the one it leads to where no row applies, and the one of before where one does
+module _ (L : Limits) (c : Bench) (e : Event) where
+  pub step-done : (u : Unit {0}) → check_of L c e ≡ Ok u → (step_of L c e).bench ≡ effect_of L c e
+  step-done u h = (step-accepted L c e (ap is_accepted h ∙ accepted-so u)).0
 
-pub fresh-within : (a : FreshAnswer) → (fresh_number a ≡ 0) ⊎ ((2 ≤ fresh_number a) × (fresh_number a ≤ 3))
-unfolding fresh_number
-fresh-within Made = inl refl
-fresh-within NoBus = inr (omega arith, omega arith)
-fresh-within NoMark = inr (omega arith, omega arith)
+  pub step-kept : (r : Refusal) → check_of L c e ≡ Err r → (step_of L c e).bench ≡ c
+  step-kept r h = (step-refused L c e (ap is_accepted h ∙ refused-so r)).0
+
+  -- its answer is the table's
+  pub step-answer : (step_of L c e).answer ≡ check_of L c e
+  unfolding step_of
+  step-answer = refl
+
+-- every answer's number is 0 or that of a row
+refusal-within : (r : Refusal) → (refusal_number r ≡ 0) ⊎ IsEventRow (refusal_number r)
+unfolding refusal_number
+refusal-within NoKind = inr (omega arith, omega arith)
+refusal-within NoBoard = inr (omega arith, omega arith)
+refusal-within WrongField = inr (omega arith, omega arith)
+refusal-within WrongMark = inr (omega arith, omega arith)
+refusal-within SameBoard = inr (omega arith, omega arith)
+refusal-within WrongStart = number-within NotStarted
+refusal-within AtEnd = number-within Ended
+refusal-within NotSigned = inr (omega arith, omega arith)
+refusal-within NotAbove = inr (omega arith, omega arith)
+refusal-within AlreadyDelivered = inr (omega arith, omega arith)
+refusal-within NotDecided = inr (omega arith, omega arith)
+refusal-within FewBallots = inr (omega arith, omega arith)
+refusal-within MustWait = number-within Waiting
+
+pub answer-within : (a : Result (Unit {0}) Refusal) → (answer_number a ≡ 0) ⊎ IsEventRow (answer_number a)
+unfolding answer_number
+answer-within (Ok _) = inl refl
+answer-within (Err r) = refusal-within r
+
+pub fresh-within : (a : Result (Unit {0}) SetupFault) → (fresh_number a ≡ 0) ⊎ ((2 ≤ fresh_number a) × (fresh_number a ≤ 3))
+unfolding fresh_number fault_number
+fresh-within (Ok _) = inl refl
+fresh-within (Err NoBus) = inr (omega arith, omega arith)
+fresh-within (Err NoMark) = inr (omega arith, omega arith)
 
 -- and 0 is that of a bench that is made, alone
-pub fresh-made : (a : FreshAnswer) → fresh_number a ≡ 0 → a ≡ Made
-unfolding fresh_number
-fresh-made Made e = refl
-fresh-made NoBus e = absurd (omega arith)
-fresh-made NoMark e = absurd (omega arith)
+pub fresh-made : (a : Result (Unit {0}) SetupFault) → fresh_number a ≡ 0 → a ≡ Ok tt
+unfolding fresh_number fault_number
+fresh-made (Ok _) e = refl
+fresh-made (Err NoBus) e = absurd (omega arith)
+fresh-made (Err NoMark) e = absurd (omega arith)
 
 -- where an event's is not 0, the bench is as it was
 pub refused-same : (L : Limits) (c : Bench) (e : Event) → (answer_number (step_of L c e).answer ≡ 0 → ⊥) → (step_of L c e).bench ≡ c

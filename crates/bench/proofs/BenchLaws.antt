@@ -1,17 +1,20 @@
 -- Laws of a bench's boards and signers, each read back after a change. Assumes nothing.
-use Prim.Native.Nat.{ℕ}
-use mathlib.Core.Path.{◌≡◌, refl}
+use Prim.Native.Nat.{ℕ, ◌+◌, ◌-◌, ◌<◌}
+use mathlib.Core.Path.{◌≡◌, refl, ap, ◌∙◌}
 use mathlib.Core.Bool.{true}
-use lib.ListN.{length}
+use lib.ListN.{length, get_or}
+use lib.Dec.{eqb}
 use native.Mathlib.Omega.{arith}
-use Rattle.signer.proofs.FromOneLaws.{within_low, within-high, nth-set-same, nth-set-other, nth-replicate}
+use Rattle.signer.proofs.FromOneLaws.{nth-any, within_low, within-high, nth-set-same, nth-set-other, nth-replicate}
 use Rattle.signer.specs.Log.{entry_at}
 use Rattle.signer.specs.Signer.{fresh_signer, sign}
 use Rattle.delivery.specs.Limits.{Limits}
 use Rattle.delivery.specs.Bus.{is_board}
+use Rattle.delivery.specs.Delivered.{heard}
+use Rattle.delivery.specs.Tests.{neg}
 use Rattle.vote.specs.Boards.{fresh_board}
 use Rattle.vote.specs.declared.board.Board.{Board}
-use Rattle.bench.specs.Benches.{board_at, signer_at, signed_by}
+use Rattle.bench.specs.Benches.{board_at, signer_at, signed_by, holds}
 use Rattle.bench.specs.Effects.{with_board_at, with_signature}
 use Rattle.bench.specs.Setups.{bench_of}
 use Rattle.bench.specs.declared.bench.Bench.{Bench}
@@ -52,6 +55,16 @@ module _ (L : Limits) (c : Bench) where
   pub signer-other : (j k i v : ℕ) → (j ≡ k → ⊥) → signer_at L (with_signature L c k i v) j ≡ signer_at L c j
   unfolding signer_at with_signature
   signer-other j k i v h = nth-set-other c.signers j k _ (fresh_signer L.identifiers) h
+
+-- whether the board at index k has delivered a statement
+pub holds-at : (L : Limits) (c : Bench) (s i k : ℕ) (d : Board) → k < length c.boards
+    → holds L c s i (k + 1) ≡ neg (eqb (heard L (get_or c.boards k d).delivered s i) 0)
+unfolding holds board_at
+holds-at L c s i k d h =
+    let e : k + 1 - 1 ≡ k = omega arith in
+    ap
+    (λ (b : Board). neg (eqb (heard L b.delivered s i) 0))
+    (nth-any c.boards (k + 1) (fresh_board L) d (omega arith) (omega arith) ∙ ap (λ (j : ℕ). get_or c.boards j d) e)
 
 -- what was signed is what the signer's log has
 pub signed-log : (L : Limits) (c : Bench) (s i : ℕ) → signed_by L c s i ≡ entry_at (signer_at L c s).log i

@@ -30,9 +30,9 @@ use Rattle.vote.proofs.BoardLaws.{Convinced}
 use Rattle.bench.specs.Events.{proposing, turning, delivering, announcing, suspecting, trusting, signing}
 use Rattle.bench.specs.Benches.{is_sound, board_at, signer_at, heard_by, signed_by}
 use Rattle.bench.specs.Answers.{answer_number, is_accepted}
-use Rattle.bench.specs.Table.{kind_row, boards_row, wrong_id, wrong_value, fields_row, mark_row, start_row, end_row, signed_row, last_row, delivered_row, ballots_row, refuses, turn_row, first_of, check_of}
+use Rattle.bench.specs.Table.{kind_row, boards_row, wrong_id, wrong_value, fields_row, mark_row, start_row, end_row, signed_row, last_row, delivered_row, ballots_row, refuses, must_wait, turn_row, first_of, check_of}
 use Rattle.bench.specs.Effects.{with_board_at, with_signature, after_turn, after_hearing, brought, effect_of}
-use Rattle.bench.proofs.AnswerLaws.{start-refused, end_refused, wait-refused}
+use Rattle.bench.proofs.AnswerLaws.{refused-so}
 use Rattle.bench.proofs.TableLaws.{delivers-other, boards-a, boards-b, first-takes, first-skips}
 use Rattle.bench.proofs.EffectLaws.{
   effect-proposing,
@@ -45,15 +45,14 @@ use Rattle.bench.proofs.EffectLaws.{
 }
 use Rattle.bench.specs.declared.bench.Bench.{Bench}
 use Rattle.bench.specs.declared.event.Event.{Event}
-use Rattle.bench.specs.declared.answer.Answer.{Answer}
+use Rattle.bench.specs.declared.answer.Refusal.{Refusal}
 
 -- an event that is accepted passed a row, and is accepted by the rows after it
-first-passed : (row : Bool × Answer) (rows : List (Bool × Answer)) → is_accepted row.1 ≡ false
-    → is_accepted (first_of (row ∷ rows)) ≡ true → (row.0 ≡ false) × (is_accepted (first_of rows) ≡ true)
-first-passed row rows f t = go row.0 refl
+first-passed : (row : Bool × Refusal) (rows : List (Bool × Refusal)) → is_accepted (first_of (row ∷ rows)) ≡ true → (row.0 ≡ false) × (is_accepted (first_of rows) ≡ true)
+first-passed row rows t = go row.0 refl
   where
     go : (b : Bool) → row.0 ≡ b → (row.0 ≡ false) × (is_accepted (first_of rows) ≡ true)
-    go true e = absurd (true≢false (sym t ∙ ap is_accepted (first-takes row.0 row.1 rows e) ∙ f))
+    go true e = absurd (true≢false (sym t ∙ ap is_accepted (first-takes row.0 row.1 rows e) ∙ refused-so row.1))
     go false e = (e, sym (ap is_accepted (first-skips row.0 row.1 rows e)) ∙ t)
 
 -- e passed the table: of its rows, those that something later needs (14 and 20 are not among them)
@@ -71,21 +70,21 @@ pub record Passed (L : Limits) (c : Bench) (e : Event) : Type 0 where
   pub turn : turn_row L c e ≡ false
 
 pub accepted-passed : (L : Limits) (c : Bench) (e : Event) → is_accepted (check_of L c e) ≡ true → Passed L c e
-unfolding check_of is_accepted answer_number
+unfolding check_of
 accepted-passed L c e t =
-    let p1 = first-passed _ _ refl t in
-    let p2 = first-passed _ _ refl p1.1 in
-    let p3 = first-passed _ _ refl p2.1 in
-    let p4 = first-passed _ _ refl p3.1 in
-    let p5 = first-passed _ _ refl p4.1 in
-    let p6 = first-passed _ _ start-refused p5.1 in
-    let p7 = first-passed _ _ end_refused p6.1 in
-    let p8 = first-passed _ _ refl p7.1 in
-    let p9 = first-passed _ _ refl p8.1 in
-    let p10 = first-passed _ _ refl p9.1 in
-    let p11 = first-passed _ _ refl p10.1 in
-    let p12 = first-passed _ _ refl p11.1 in
-    let p13 = first-passed _ _ wait-refused p12.1 in
+    let p1 = first-passed _ _ t in
+    let p2 = first-passed _ _ p1.1 in
+    let p3 = first-passed _ _ p2.1 in
+    let p4 = first-passed _ _ p3.1 in
+    let p5 = first-passed _ _ p4.1 in
+    let p6 = first-passed _ _ p5.1 in
+    let p7 = first-passed _ _ p6.1 in
+    let p8 = first-passed _ _ p7.1 in
+    let p9 = first-passed _ _ p8.1 in
+    let p10 = first-passed _ _ p9.1 in
+    let p11 = first-passed _ _ p10.1 in
+    let p12 = first-passed _ _ p11.1 in
+    let p13 = first-passed _ _ p12.1 in
     record {
       kind = p1.0;
       boards = p2.0;
@@ -226,7 +225,7 @@ module _ (L : Limits) (c : Bench) (e : Event) where
     -- a signer signs what is said in an accepted turn, and what an accepted event asks of it
     signable : is turning ≡ true → (s : Statement) → (turn L c.n e.a me).signed ≡ One s
         → grants L.identifiers (signer_at L c e.a) s.id.0 ≡ true
-    unfolding turn_row refuses
+    unfolding turn_row must_wait refuses
     signable k s x =
         let f : refuses L (signer_at L c e.a) (turn L c.n e.a me).signed ≡ false = or-false-right _ _ (and-under _ _ k p.turn) in
         neg-false _ (sym (ap (refuses L (signer_at L c e.a)) x) ∙ f)

@@ -11,7 +11,6 @@ pub mod ExampleLaws
 pub mod MomentLaws
 pub mod HistoryLaws
 pub mod LegalLaws
-pub mod PartLaws
 pub mod ChangeLaws
 pub mod FitLaws
 pub mod SetupLaws

@@ -21,7 +21,7 @@ use Rattle.delivery.proofs.OwedLaws.{signing-there, delivery-there}
 use Rattle.delivery.proofs.EchoLaws.{Lacks, signing-owes, signing-only, delivery-owes, delivery-only}
 use Rattle.delivery.specs.declared.owed.Owed.{Owed}
 use Rattle.vote.specs.declared.statement.Statement.{Statement}
-use Rattle.bench.specs.Benches.{is_sound, heard_by, signer_at, holders}
+use Rattle.bench.specs.Benches.{holds, is_sound, heard_by, signer_at, holders}
 use Rattle.bench.specs.Setups.{Setup}
 use Rattle.bench.specs.Effects.{with_board_at, with_signature, with_owed}
 use Rattle.bench.specs.declared.bench.Bench.{Bench}
@@ -63,7 +63,7 @@ carry P {s} {s'} {i} {i'} p q t = subst (λ (m : ℕ). P m i') p (subst (P s) q 
 module _ (L : Limits) (S : Setup) (g : Ground L S) (c : Bench) (f : Fit L S c) (a : ℕ) where
   -- a board is among the holders of a statement if it has heard it
   holder-not : (k s i : ℕ) → is_board L k ≡ true → in_set (holders L c s i) k ≡ false → heard_by L c k s i ≡ 0
-  unfolding holders
+  unfolding holders holds
   holder-not k s i b n =
       eqb-true
       (heard_by L c k s i)
@@ -80,7 +80,7 @@ module _ (L : Limits) (S : Setup) (g : Ground L S) (c : Bench) (f : Fit L S c) (
       ∙ n))
 
   not-holder : (k s i : ℕ) → heard_by L c k s i ≡ 0 → in_set (holders L c s i) k ≡ false
-  unfolding holders
+  unfolding holders holds
   not-holder k s i z =
       fails
       (in_set (holders L c s i) k)

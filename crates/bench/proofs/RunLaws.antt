@@ -22,8 +22,8 @@ use Rattle.bench.specs.Runs.{after, answers_to, events_in, ending_of, played_by,
 use Rattle.bench.specs.Story.{History, history_of}
 use Rattle.bench.specs.declared.bench.Bench.{Bench}
 use Rattle.bench.specs.declared.event.Event.{Event}
-use Rattle.bench.specs.declared.play.Ending.{Ending}
-use Rattle.bench.specs.declared.play.Ending.TheVariants.{Played}
+use Rattle.std.specs.Prelude.{Result, Ok, Err}
+use Rattle.bench.specs.declared.play.Unplayed.{Unplayed}
 
 -- an event is its six bytes, and no byte after them matters
 pub event-bytes : (k a b i high low : ℕ) (bs : List ℕ)
@@ -131,17 +131,17 @@ pub played-fits : (bs : List ℕ) (room : ℕ) → length (events_played bs room
 unfolding ending_of played_by
 played-fits bs room =
     if-elim
-    (λ (x : Ending). length (played_by x bs) ≤ room)
+    (λ (x : Result (Unit {0}) Unplayed). length (played_by x bs) ≤ room)
     (eqb (length bs % event_bytes) 0)
     _
     _
-    (λ h. if-elim (λ (x : Ending). length (played_by x bs) ≤ room) (leb (length bs / event_bytes) room) _ _ (λ g. omega (arith, length-events (length bs / event_bytes) bs, leb-true (length bs / event_bytes) room g)) (λ g. omega arith))
+    (λ h. if-elim (λ (x : Result (Unit {0}) Unplayed). length (played_by x bs) ≤ room) (leb (length bs / event_bytes) room) _ _ (λ g. omega (arith, length-events (length bs / event_bytes) bs, leb-true (length bs / event_bytes) room g)) (λ g. omega arith))
     (λ h. omega arith)
 
-pub played-room : (bs : List ℕ) (room : ℕ) → ending_of (length bs) room ≡ Played → length bs / event_bytes ≤ room
+pub played-room : (bs : List ℕ) (room : ℕ) → ending_of (length bs) room ≡ Ok tt → length bs / event_bytes ≤ room
 unfolding played_by
 played-room bs room h =
-    let e : length (events_played bs room) ≡ length (events_in (length bs / event_bytes) bs) = ap (λ (x : Ending). length (played_by x bs)) h in
+    let e : length (events_played bs room) ≡ length (events_in (length bs / event_bytes) bs) = ap (λ (x : Result (Unit {0}) Unplayed). length (played_by x bs)) h in
     omega (arith, played-fits bs room, e, length-events (length bs / event_bytes) bs)
 
 -- whole events for which there is room are played
@@ -152,7 +152,7 @@ events-played k room bs e h =
     let count : length bs / event_bytes ≡ k = omega arith in
     let fits : length bs / event_bytes ≤ room = omega arith in
     ap
-    (λ (x : Ending). played_by x bs)
+    (λ (x : Result (Unit {0}) Unplayed). played_by x bs)
     (if-true (eqb (length bs % event_bytes) 0) _ _ (eq-eqb (length bs % event_bytes) 0 whole)
     ∙ if-true (leb (length bs / event_bytes) room) _ _ (le-leb (length bs / event_bytes) room fits))
     ∙ ap (λ (m : ℕ). events_in m bs) count

@@ -1,14 +1,15 @@
 -- What the call for a fresh bench gives is within the limits, and a fresh bench is fit. Assumes nothing.
-use Prim.Native.Nat.{ℕ, ◌≤◌}
+use Prim.Native.Nat.{ℕ, ◌+◌, ◌≤◌, ◌<◌}
+use native.Mathlib.Decide.{dec_le}
 use native.Mathlib.Omega.{arith}
 use mathlib.Core.Path.{◌≡◌, refl, sym, ap, subst, subst⁻¹, ◌∙◌, fun_ext}
-use mathlib.Core.Bool.{Bool, true, true≢false}
+use mathlib.Core.Bool.{Bool, true, false, true≢false}
 use mathlib.Core.List.{List}
 use mathlib.Core.Logic.{⊎_elim}
 use lib.Dec.{eqb}
 use lib.ListN.{length-replicate}
 use Rattle.signer.specs.FromOne.{is_within, nth}
-use Rattle.std.specs.Prelude.{if◌then◌else◌}
+use Rattle.std.specs.Prelude.{Result, Ok, Err, if◌then◌else◌}
 use Rattle.signer.specs.Log.{entry_at, entry_of}
 use Rattle.signer.specs.Signer.{fresh_signer}
 use Rattle.signer.specs.declared.signer.Signer.{Signer}
@@ -21,8 +22,8 @@ use Rattle.delivery.specs.Counting.{every_in}
 use Rattle.delivery.specs.Sets.{in_set, set_of, with_board}
 use Rattle.delivery.specs.Delivered.{heard}
 use Rattle.delivery.specs.declared.delivered.Delivered.{Delivered}
-use Rattle.delivery.proofs.TestLaws.{decided}
-use Rattle.delivery.proofs.CountLaws.{reads-every}
+use Rattle.delivery.proofs.TestLaws.{decided, fails}
+use Rattle.delivery.proofs.CountLaws.{every-reads, reads-every}
 use Rattle.delivery.proofs.SetLaws.{in-set_of-outside, in-none, set-none, with-next}
 use Rattle.delivery.proofs.DeliveredLaws.{heard-nothing}
 use Rattle.delivery.proofs.OwedLaws.{nothing-whole, owed-nothing}
@@ -33,9 +34,9 @@ use Rattle.vote.proofs.ProperLaws.{Proper, fresh-proper}
 use Rattle.vote.proofs.LifeLaws.{Grounded, fresh-grounded}
 use Rattle.bench.specs.Benches.{signer_at, heard_by, signed_by}
 use Rattle.bench.specs.Setups.{is_mark, is_mark_at, is_marked_sound, Setup, fresh_answer, setup_by, setup, bench_of, fresh_bench, fresh_of}
-use Rattle.bench.specs.Answers.{fresh_number}
-use Rattle.bench.specs.declared.answer.FreshAnswer.{FreshAnswer}
-use Rattle.bench.specs.declared.answer.FreshAnswer.TheVariants.{Made, NoBus, NoMark}
+use Rattle.bench.specs.Answers.{fault_number, fresh_number}
+use Rattle.bench.specs.declared.answer.SetupFault.{SetupFault}
+use Rattle.bench.specs.declared.answer.SetupFault.TheVariants.{NoBus, NoMark}
 use Rattle.bench.specs.declared.bench.Bench.{Bench}
 use Rattle.bench.proofs.BenchLaws.{board-fresh, signer-fresh}
 use Rattle.bench.proofs.FitLaws.{Ground, Fit}
@@ -63,42 +64,58 @@ fresh-bench L n marks = refl
 
 -- marks that read alike make one bench
 module _ (ms rs : List ℕ) (e : (k : ℕ) → nth ms k 0 ≡ nth rs k 0) where
-  setup-alike : (a : FreshAnswer) (n : ℕ) → setup_by a n ms ≡ setup_by a n rs
+  setup-alike : (a : Result (Unit {0}) SetupFault) (n : ℕ) → setup_by a n ms ≡ setup_by a n rs
   unfolding setup_by is_marked_sound
-  setup-alike Made n = ap (λ (p : ℕ → Bool). record { n = n; sound = set_of n p }) (fun_ext (λ k. ap (λ (m : ℕ). eqb m 0) (e k)))
-  setup-alike NoBus n = refl
-  setup-alike NoMark n = refl
+  setup-alike (Ok _) n = ap (λ (p : ℕ → Bool). record { n = n; sound = set_of n p }) (fun_ext (λ k. ap (λ (m : ℕ). eqb m 0) (e k)))
+  setup-alike (Err _) n = refl
 
   answer-alike : (L : Limits) (n : ℕ) → fresh_answer L n ms ≡ fresh_answer L n rs
   unfolding fresh_answer is_mark_at
-  answer-alike L n = ap (λ (p : ℕ → Bool). if is_board L n then (if every_in n p then Made else NoMark) else NoBus) (fun_ext (λ k. ap is_mark (e k)))
+  answer-alike L n = ap (λ (p : ℕ → Bool). if is_board L n then (if every_in n p then Ok tt else Err NoMark) else Err NoBus) (fun_ext (λ k. ap is_mark (e k)))
 
   pub fresh-alike : (L : Limits) (n : ℕ) → fresh_bench L n ms ≡ fresh_bench L n rs
   unfolding fresh_bench
   fresh-alike L n =
       ap
       (λ (s : Setup). bench_of L s.n s.sound)
-      (ap (λ (a : FreshAnswer). setup_by a n ms) (answer-alike L n) ∙ setup-alike (fresh_answer L n rs) n)
+      (ap (λ (a : Result (Unit {0}) SetupFault). setup_by a n ms) (answer-alike L n) ∙ setup-alike (fresh_answer L n rs) n)
+
+-- none of no marks is wrong; one more is a mark if it is read as one; and where it is not, not all of them are
+pub marks-none : (marks : List ℕ) → every_in 0 (is_mark_at marks) ≡ true
+marks-none marks = reads-every 0 _ (λ k l h. absurd (omega arith))
+
+pub marks-next : (i : ℕ) (marks : List ℕ) → every_in i (is_mark_at marks) ≡ true → is_mark (nth marks (i + 1) 0) ≡ true
+    → every_in (i + 1) (is_mark_at marks) ≡ true
+unfolding is_mark_at
+marks-next i marks h g = reads-every (i + 1) _ (λ k l u. go k l u (dec_le k i))
+  where
+    go : (k : ℕ) → 1 ≤ k → k ≤ i + 1 → Dec (k ≤ i) → is_mark (nth marks k 0) ≡ true
+    go k l u (yes b) = every-reads i _ h k l b
+    go k l u (no b) = let e : k ≡ i + 1 = omega arith in ap (λ (j : ℕ). is_mark (nth marks j 0)) e ∙ g
+
+pub marks-fail : (n i : ℕ) (marks : List ℕ) → i < n → is_mark (nth marks (i + 1) 0) ≡ false → every_in n (is_mark_at marks) ≡ false
+unfolding is_mark_at
+marks-fail n i marks l f = fails _ (λ h. true≢false (sym (every-reads n _ h (i + 1) (omega arith) (omega arith)) ∙ f))
 
 -- a bench that is made has a number of boards that there can be
-made-board : (L : Limits) (n : ℕ) (marks : List ℕ) → fresh_answer L n marks ≡ Made → is_board L n ≡ true
-unfolding fresh_answer fresh_number
+made-board : (L : Limits) (n : ℕ) (marks : List ℕ) → fresh_answer L n marks ≡ Ok tt → is_board L n ≡ true
+unfolding fresh_answer fresh_number fault_number
 made-board L n marks =
     if-elim
-    (λ (a : FreshAnswer). a ≡ Made → is_board L n ≡ true)
+    (λ (a : Result (Unit {0}) SetupFault). a ≡ Ok tt → is_board L n ≡ true)
     (is_board L n)
     _
-    NoBus
+    (Err NoBus)
     (λ t e. t)
     (λ f e. let z : 2 ≡ 0 = ap fresh_number e in absurd (omega (arith, z)))
 
 -- and one is made for such a number, if the marks are marks
 pub board-made : (L : Limits) (n : ℕ) (marks : List ℕ) → is_board L n ≡ true
-    → ((k : ℕ) → 1 ≤ k → k ≤ n → is_mark (nth marks k 0) ≡ true) → fresh_answer L n marks ≡ Made
+    → ((k : ℕ) → 1 ≤ k → k ≤ n → is_mark (nth marks k 0) ≡ true) → fresh_answer L n marks ≡ Ok tt
 unfolding fresh_answer is_mark_at
 board-made L n marks t m = if-true _ _ _ t ∙ if-true _ _ _ (reads-every n (is_mark_at marks) m)
 
-alone-ground : (n : ℕ) (marks : List ℕ) → Ground limits (setup_by NoBus n marks)
+alone-ground : (n : ℕ) (marks : List ℕ) → Ground limits (setup_by (Err NoBus) n marks)
 unfolding setup_by
 alone-ground n marks =
     record {
@@ -110,9 +127,9 @@ alone-ground n marks =
       members = λ k t. in_within 1 all k (subst (λ (m : ℕ). in_set m k ≡ true) alone-set t);
     }
 
-ground-by : (n : ℕ) (marks : List ℕ) (a : FreshAnswer) → (a ≡ Made → is_board limits n ≡ true) → Ground limits (setup_by a n marks)
+ground-by : (n : ℕ) (marks : List ℕ) (a : Result (Unit {0}) SetupFault) → (a ≡ Ok tt → is_board limits n ≡ true) → Ground limits (setup_by a n marks)
 unfolding setup_by
-ground-by n marks Made h =
+ground-by n marks (Ok _) h =
     record {
       some-round = omega arith;
       identifiers-enough = omega arith;
@@ -121,8 +138,7 @@ ground-by n marks Made h =
       boards-enough = within-high limits.boards n (h refl);
       members = in_within n _;
     }
-ground-by n marks NoBus h = alone-ground n marks
-ground-by n marks NoMark h = alone-ground n marks
+ground-by n marks (Err _) h = alone-ground n marks
 
 pub limits-ground : (n : ℕ) (marks : List ℕ) → Ground limits (setup limits n marks)
 limits-ground n marks = ground-by n marks (fresh_answer limits n marks) (made-board limits n marks)

@@ -1,20 +1,28 @@
 -- Laws of the table: of the kinds that an event may be of, of tests joined, and of the first row that applies.
 -- Assumes nothing.
-use Prim.Native.Nat.{ℕ}
-use mathlib.Core.Path.{◌≡◌, ap, ◌∙◌}
+use Prim.Native.Nat.{ℕ, ◌≤◌}
+use mathlib.Core.Path.{◌≡◌, refl, sym, ap, ◌∙◌}
 use mathlib.Core.Bool.{Bool, true, false, not}
-use mathlib.Core.List.{List, ◌∷◌}
+use mathlib.Core.List.{List, [], ◌∷◌, ◌++◌}
 use lib.Dec.{eqb}
+use native.Mathlib.Omega.{arith}
+use Rattle.std.proofs.lemmas.Bool.Decides.{nat_tests}
 use borrow.Author.Tests.{eq-eqb}
 use Rattle.signer.specs.FromOne.{is_within}
 use Rattle.signer.proofs.ConditionalLaws.{if-true, if-false}
 use Rattle.delivery.specs.Tests.{◌and◌, ◌or◌, neg}
-use Rattle.delivery.proofs.TestLaws.{and-yes-left, and-no-left, and-under, or_left, or_right, or_no, or-no-left, or-no-right, or-false-left, or-false-right, neg-false}
-use Rattle.bench.specs.Events.{delivering, announcing, suspecting, trusting, signing, uses_other, uses_id}
-use Rattle.bench.specs.Table.{boards_row, first_of}
+use Rattle.delivery.proofs.TestLaws.{and-yes-left, and-no-left, and-under, or_left, or_right, or_no, or-no-left, or-no-right, or-false-left, or-false-right, neg-no, neg-in, neg-false, fails}
+use Rattle.signer.proofs.FromOneLaws.{within_low, within-high, within_in}
+use Rattle.bench.specs.Events.{proposing, turning, delivering, announcing, suspecting, trusting, signing, kind_number, kind_of, uses_other, uses_id}
+use Rattle.bench.specs.Table.{kind_row, boards_row, first_of, event_rows, state_rows, turn_rows, table_of, check_of}
+use Rattle.bench.specs.declared.event.Kind.{Kind}
+use Rattle.bench.specs.declared.event.Kind.TheVariants.{Propose, Turn, Deliver, Announce, Suspect, Trust, Sign}
 use Rattle.bench.specs.declared.bench.Bench.{Bench}
 use Rattle.bench.specs.declared.event.Event.{Event}
-use Rattle.bench.specs.declared.answer.Answer.{Answer}
+use Rattle.std.specs.Prelude.{Result, Ok, Err}
+use Rattle.bench.specs.declared.answer.Refusal.{Refusal}
+use Rattle.bench.specs.declared.answer.Refusal.TheVariants.{NoKind}
+use Rattle.delivery.specs.Limits.{Limits}
 
 -- what the code negates is the word "not" of the same test
 pub not_same : (a b : Bool) → a ≡ b → not a ≡ neg b
@@ -68,13 +76,81 @@ module _ (c : Bench) (e : Event) (h : boards_row c e ≡ false) where
   boards-b k = neg-false _ (and-under _ _ k (or-false-right _ _ h))
 
 -- a row that applies is the first
-pub first-takes : (b : Bool) (a : Answer) (rows : List (Bool × Answer))
-    → b ≡ true → first_of ((b, a) ∷ rows) ≡ a
+pub first-takes : (b : Bool) (r : Refusal) (rows : List (Bool × Refusal))
+    → b ≡ true → first_of ((b, r) ∷ rows) ≡ Err r
 unfolding first_of
-first-takes b a rows h = if-true _ _ _ h
+first-takes b r rows h = if-true _ _ _ h
 
 -- and one that does not is passed over
-pub first-skips : (b : Bool) (a : Answer) (rows : List (Bool × Answer))
-    → b ≡ false → first_of ((b, a) ∷ rows) ≡ first_of rows
+pub first-skips : (b : Bool) (r : Refusal) (rows : List (Bool × Refusal))
+    → b ≡ false → first_of ((b, r) ∷ rows) ≡ first_of rows
 unfolding first_of
-first-skips b a rows h = if-false _ _ _ h
+first-skips b r rows h = if-false _ _ _ h
+
+-- so some rows, and then others, give what the first of the former gives; and where none of these applies, what the others
+-- give
+rows-refuse : (xs ys : List (Bool × Refusal)) (r : Refusal) → first_of xs ≡ Err r → first_of (xs ++ ys) ≡ Err r
+unfolding first_of
+rows-refuse [] ys r h = grind (arith, h)
+rows-refuse ((true, a) ∷ xs) ys r h = h
+rows-refuse ((false, a) ∷ xs) ys r h = rows-refuse xs ys r h
+
+rows-pass : (xs ys : List (Bool × Refusal)) (u : Unit {0}) → first_of xs ≡ Ok u → first_of (xs ++ ys) ≡ first_of ys
+unfolding first_of
+rows-pass [] ys u h = refl
+rows-pass ((true, a) ∷ xs) ys u h = grind (arith, h)
+rows-pass ((false, a) ∷ xs) ys u h = rows-pass xs ys u h
+
+-- a number from 1 to 7 is that of its kind, and no other has one
+pub kind-known : (n : ℕ) (k : Kind) → kind_of n ≡ Ok k → kind_number k ≡ n
+unfolding kind_of kind_number
+kind-known n k h = grind (arith, nat_tests, h)
+
+kind-within : (k : Kind) → (1 ≤ kind_number k) × (kind_number k ≤ signing)
+unfolding kind_number
+kind-within Propose = (omega arith, omega arith)
+kind-within Turn = (omega arith, omega arith)
+kind-within Deliver = (omega arith, omega arith)
+kind-within Announce = (omega arith, omega arith)
+kind-within Suspect = (omega arith, omega arith)
+kind-within Trust = (omega arith, omega arith)
+kind-within Sign = (omega arith, omega arith)
+
+kind-none : (n : ℕ) (r : Refusal) → kind_of n ≡ Err r → (r ≡ NoKind) × (1 ≤ n → n ≤ signing → ⊥)
+unfolding kind_of
+kind-none n r h = (grind (arith, nat_tests, h), λ l u. grind (arith, nat_tests, h, l, u))
+
+kind-passes : (e : Event) (k : Kind) → kind_of e.kind ≡ Ok k → kind_row e ≡ false
+unfolding kind_row
+kind-passes e k h =
+    let n = kind-known e.kind k h in
+    neg-no _ (within_in signing e.kind (omega (arith, n, (kind-within k).0)) (omega (arith, n, (kind-within k).1)))
+
+module _ (L : Limits) (c : Bench) (e : Event) where
+  pub check-kind : (r : Refusal) → kind_of e.kind ≡ Err r → check_of L c e ≡ Err r
+  unfolding check_of kind_row
+  check-kind r h =
+      let none = kind-none e.kind r h in
+      first-takes _ _ _ (neg-in _ (fails _ (λ w. none.1 (within_low signing e.kind w) (within-high signing e.kind w))))
+      ∙ ap Err (sym none.0)
+
+  module _ (k : Kind) (known : kind_of e.kind ≡ Ok k) where
+    pub check-event : (r : Refusal) → first_of (event_rows L c e) ≡ Err r → check_of L c e ≡ Err r
+    unfolding check_of
+    check-event r h = first-skips _ _ _ (kind-passes e k known) ∙ rows-refuse (event_rows L c e) (state_rows L c e ++ turn_rows L c e) r h
+
+    pub check-state : (u : Unit {0}) (r : Refusal) → first_of (event_rows L c e) ≡ Ok u → first_of (state_rows L c e) ≡ Err r
+        → check_of L c e ≡ Err r
+    unfolding check_of
+    check-state u r p h =
+        first-skips _ _ _ (kind-passes e k known)
+        ∙ rows-pass (event_rows L c e) (state_rows L c e ++ turn_rows L c e) u p
+        ∙ rows-refuse (state_rows L c e) (turn_rows L c e) r h
+
+    pub check-turn : (u v : Unit {0}) → first_of (event_rows L c e) ≡ Ok u → first_of (state_rows L c e) ≡ Ok v
+        → check_of L c e ≡ first_of (turn_rows L c e)
+    unfolding check_of
+    check-turn u v p q =
+        first-skips _ _ _ (kind-passes e k known)
+        ∙ rows-pass (event_rows L c e) (state_rows L c e ++ turn_rows L c e) u p
+        ∙ rows-pass (state_rows L c e) (turn_rows L c e) v q

@@ -1,10 +1,9 @@
 -- Document 01, "Where an event or file stops": the answers and their numbers in its table.
-use Rattle.std.specs.Prelude.{ℕ, Bool, eqb}
+use Rattle.std.specs.Prelude.{ℕ, Bool, Result, Ok, Err, eqb}
 use Rattle.vote.specs.Turns.{turn_number}
-use Rattle.vote.specs.declared.turn.Answer.TheVariants.{Done, NotStarted, Ended, Waiting}
-use Rattle.bench.specs.declared.answer.Answer.{Answer}
-use Rattle.bench.specs.declared.answer.Answer.TheVariants.{
-  Accepted,
+use Rattle.vote.specs.declared.turn.Answer.TheVariants.{NotStarted, Ended, Waiting}
+use Rattle.bench.specs.declared.answer.Refusal.{Refusal}
+use Rattle.bench.specs.declared.answer.Refusal.TheVariants.{
   NoKind,
   NoBoard,
   WrongField,
@@ -19,32 +18,38 @@ use Rattle.bench.specs.declared.answer.Answer.TheVariants.{
   FewBallots,
   MustWait,
 }
-use Rattle.bench.specs.declared.answer.FreshAnswer.{FreshAnswer}
-use Rattle.bench.specs.declared.answer.FreshAnswer.TheVariants.{Made, NoBus, NoMark}
+use Rattle.bench.specs.declared.answer.SetupFault.{SetupFault}
+use Rattle.bench.specs.declared.answer.SetupFault.TheVariants.{NoBus, NoMark}
 
--- the answers to the call for a fresh bench: n is no number of boards, and a mark is none
-unfoldable pub fresh_number : FreshAnswer → ℕ
-fresh_number Made = 0
-fresh_number NoBus = 2
-fresh_number NoMark = 3
+-- the call for a fresh bench is refused: n is no number of boards, or a mark is none
+unfoldable pub fault_number : SetupFault → ℕ
+fault_number NoBus = 2
+fault_number NoMark = 3
 
--- The answers to an event. What a board itself answers to its turn has the vote's number: 0, 15, 16 and 22.
-unfoldable pub answer_number : Answer → ℕ
-answer_number Accepted = turn_number Done
-answer_number NoKind = 10
-answer_number NoBoard = 11
-answer_number WrongField = 12
-answer_number WrongMark = 13
-answer_number SameBoard = 14
-answer_number WrongStart = turn_number NotStarted
-answer_number AtEnd = turn_number Ended
-answer_number NotSigned = 17
-answer_number NotAbove = 18
-answer_number AlreadyDelivered = 19
-answer_number NotDecided = 20
-answer_number FewBallots = 21
-answer_number MustWait = turn_number Waiting
+unfoldable pub fresh_number : Result (Unit {0}) SetupFault → ℕ
+fresh_number (Ok _) = 0
+fresh_number (Err fault) = fault_number fault
+
+-- An event is refused by a row of the table. What a board itself answers to its turn has the vote's number: 15, 16 and 22.
+unfoldable pub refusal_number : Refusal → ℕ
+refusal_number NoKind = 10
+refusal_number NoBoard = 11
+refusal_number WrongField = 12
+refusal_number WrongMark = 13
+refusal_number SameBoard = 14
+refusal_number WrongStart = turn_number NotStarted
+refusal_number AtEnd = turn_number Ended
+refusal_number NotSigned = 17
+refusal_number NotAbove = 18
+refusal_number AlreadyDelivered = 19
+refusal_number NotDecided = 20
+refusal_number FewBallots = 21
+refusal_number MustWait = turn_number Waiting
+
+unfoldable pub answer_number : Result (Unit {0}) Refusal → ℕ
+answer_number (Ok _) = 0
+answer_number (Err refusal) = refusal_number refusal
 
 -- an event is accepted if it is answered 0
-unfoldable pub is_accepted : Answer → Bool
+unfoldable pub is_accepted : Result (Unit {0}) Refusal → Bool
 is_accepted a = eqb (answer_number a) 0

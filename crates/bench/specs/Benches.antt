@@ -30,6 +30,9 @@ heard_by L c k = heard L (board_at L c k).delivered
 unfoldable pub signed_by : Limits → Bench → Store
 signed_by L c s i = entry_at (signer_at L c s).log i
 
--- the boards that have delivered what s said under i
+-- whether board k has delivered what s said under i, and the boards that have
+unfoldable pub holds : Limits → Bench → ℕ → ℕ → ℕ → Bool
+holds L c s i k = neg (eqb (heard_by L c k s i) 0)
+
 unfoldable pub holders : Limits → Bench → ℕ → ℕ → ℕ
-holders L c s i = set_of L.boards (λ (k : ℕ). neg (eqb (heard_by L c k s i) 0))
+holders L c s i = set_of L.boards (holds L c s i)

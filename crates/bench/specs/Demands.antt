@@ -1,5 +1,5 @@
 -- The three demands, each as one statement. proofs/Demands shows all three.
-use Rattle.std.specs.Prelude.{ℕ, ◌≤◌, ◌≡◌, true, List, [], ◌∷◌, map, ◌⊎◌, length}
+use Rattle.std.specs.Prelude.{ℕ, ◌≤◌, ◌≡◌, true, List, [], ◌∷◌, Result, map, ◌⊎◌, length}
 use Rattle.signer.specs.Signer.{grants}
 use Rattle.delivery.specs.Limits.{limits}
 use Rattle.vote.specs.Turns.{turn}
@@ -15,7 +15,7 @@ use Rattle.bench.specs.Claim.{Agreement}
 use Rattle.bench.specs.declared.bench.Bench.{Bench}
 use Rattle.bench.specs.declared.event.Event.{Event}
 use Rattle.bench.specs.declared.effect.Outcome.{Outcome}
-use Rattle.bench.specs.declared.answer.Answer.{Answer}
+use Rattle.bench.specs.declared.answer.Refusal.{Refusal}
 use Rattle.bench.specs.declared.fresh.Fresh.{Fresh}
 
 -- Demand 1: for every bench and every event the answer is 0 or a number of the table's rows for events, and where it is
@@ -32,7 +32,7 @@ pub record Demand1 : Type 0 where
 -- gives the answer and leaves the bench that it was lent as another. Of either call this is what its contract ensures.
 pub data Playing (c : Bench) (e : Event) : Type 0 where
   by-event : (r : Outcome) → r ≡ step_of limits c e → Playing c e
-  by-apply : (m : Answer) (d : Bench) → (m ≡ (step_of limits c e).answer) × (d ≡ (step_of limits c e).bench) → Playing c e
+  by-apply : (m : Result (Unit {0}) Refusal) (d : Bench) → (m ≡ (step_of limits c e).answer) × (d ≡ (step_of limits c e).bench) → Playing c e
 
 unfoldable pub outcome_of : {c : Bench} {e : Event} → Playing c e → Outcome
 outcome_of (by-event r _) = r

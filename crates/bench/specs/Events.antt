@@ -1,8 +1,13 @@
 -- Document 01, "Events" and "Schedule file and program": the kinds of events, the fields that each uses, and an event's
 -- bytes.
-use Rattle.std.specs.Prelude.{ℕ, ◌+◌, ◌*◌, Bool, List, eqb, get_or}
+use Rattle.std.specs.Prelude.{ℕ, ◌+◌, ◌*◌, Bool, List, Result, Ok, Err, eqb, get_or}
+use Rattle.std.specs.Prelude.{if◌then◌else◌}
 use Rattle.delivery.specs.Tests.{◌or◌}
+use Rattle.bench.specs.declared.answer.Refusal.{Refusal}
+use Rattle.bench.specs.declared.answer.Refusal.TheVariants.{NoKind}
 use Rattle.bench.specs.declared.event.Event.{Event}
+use Rattle.bench.specs.declared.event.Kind.{Kind}
+use Rattle.bench.specs.declared.event.Kind.TheVariants.{Propose, Turn, Deliver, Announce, Suspect, Trust, Sign}
 
 -- the kinds
 abbrev pub proposing : ℕ
@@ -25,6 +30,27 @@ trusting = 6
 
 abbrev pub signing : ℕ
 signing = 7
+
+unfoldable pub kind_number : Kind → ℕ
+kind_number Propose = proposing
+kind_number Turn = turning
+kind_number Deliver = delivering
+kind_number Announce = announcing
+kind_number Suspect = suspecting
+kind_number Trust = trusting
+kind_number Sign = signing
+
+-- the kind that a number stands for
+unfoldable pub kind_of : ℕ → Result Kind Refusal
+kind_of k =
+    if eqb k proposing then Ok Propose
+    else if eqb k turning then Ok Turn
+    else if eqb k delivering then Ok Deliver
+    else if eqb k announcing then Ok Announce
+    else if eqb k suspecting then Ok Suspect
+    else if eqb k trusting then Ok Trust
+    else if eqb k signing then Ok Sign
+    else Err NoKind
 
 -- Every kind is about the board a. Some name another, b: the speaker of a statement, the announcer, or whom a suspects or
 -- trusts.

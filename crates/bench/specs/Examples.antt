@@ -7,11 +7,11 @@ use Rattle.delivery.specs.Rounds.{identifier_of}
 use Rattle.delivery.specs.declared.round.Phase.TheVariants.{Ballot}
 use Rattle.bench.specs.Events.{proposing, turning, delivering, announcing, suspecting, signing}
 use Rattle.bench.specs.Benches.{heard_by}
-use Rattle.bench.specs.Answers.{answer_number}
+use Rattle.bench.specs.Answers.{refusal_number}
 use Rattle.bench.specs.Runs.{answers_to, bench_after, answers_from}
 use Rattle.bench.specs.Shows.{plain, decided_as, shown}
 use Rattle.bench.specs.declared.event.Event.{Event}
-use Rattle.bench.specs.declared.answer.Answer.TheVariants.{AtEnd}
+use Rattle.bench.specs.declared.answer.Refusal.TheVariants.{AtEnd}
 use Rattle.bench.specs.declared.show.Letter.TheVariants.{Voting}
 
 -- events, each with the fields that it uses
@@ -138,6 +138,6 @@ pub record Examples : Type 0 where
   pub decided : shown limits (bench_after limits 3 (0 ∷ 1 ∷ 0 ∷ []) (incident ++ announcements)) 3 ≡ decided_as 1 41
   -- every row
   pub rows : answers_from limits 3 (0 ∷ 0 ∷ 1 ∷ []) every_row
-      ≡ 10 ∷ 11 ∷ 12 ∷ 13 ∷ 14 ∷ 15 ∷ 0 ∷ 0 ∷ 0 ∷ 0 ∷ 0 ∷ 0 ∷ 0 ∷ answer_number AtEnd ∷ 17 ∷ 18 ∷ 19 ∷ 0 ∷ 20 ∷ 21 ∷ 0 ∷ 22 ∷ []
+      ≡ 10 ∷ 11 ∷ 12 ∷ 13 ∷ 14 ∷ 15 ∷ 0 ∷ 0 ∷ 0 ∷ 0 ∷ 0 ∷ 0 ∷ 0 ∷ refusal_number AtEnd ∷ 17 ∷ 18 ∷ 19 ∷ 0 ∷ 20 ∷ 21 ∷ 0 ∷ 22 ∷ []
   -- no majority of sound boards is needed
   pub faulty-opened : shown limits (bench_after limits 3 (0 ∷ 1 ∷ 1 ∷ []) two_faulty) 1 ≡ decided_as 2 50

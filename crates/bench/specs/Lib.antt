@@ -2,7 +2,7 @@
 -- Benches); a fresh bench, the answers and the table (Setups, Answers, Table); what an accepted event does, and one event
 -- as a whole (Effects, which needs the table); lists of events (Runs), the letters (Shows) and worked examples (Examples).
 -- Then what a history says without looking at any bench (Story), demand 3 as one claim about it (Claim), and the three
--- demands (Demands). Last, by what the private calls promise (Parts); no open contract needs it.
+-- demands (Demands).
 pub mod Events
 pub mod Benches
 pub mod Setups
@@ -15,4 +15,3 @@ pub mod Examples
 pub mod Story
 pub mod Claim
 pub mod Demands
-pub mod Parts

@@ -1,5 +1,5 @@
 -- Document 01, "Events" and "Schedule file and program": a list of events, one after another, and the bytes of a list.
-use Rattle.std.specs.Prelude.{ℕ, zero, suc, ◌/◌, ◌%◌, List, [], ◌∷◌, ◌++◌, eqb, leb, length, drop}
+use Rattle.std.specs.Prelude.{ℕ, zero, suc, ◌/◌, ◌%◌, List, [], ◌∷◌, ◌++◌, Result, Ok, Err, eqb, leb, length, drop}
 use Rattle.std.specs.Prelude.{if◌then◌else◌}
 use Rattle.delivery.specs.Limits.{Limits}
 use Rattle.bench.specs.Events.{event_bytes, event_from}
@@ -8,9 +8,9 @@ use Rattle.bench.specs.Answers.{answer_number}
 use Rattle.bench.specs.Effects.{step_of}
 use Rattle.bench.specs.declared.bench.Bench.{Bench}
 use Rattle.bench.specs.declared.event.Event.{Event}
-use Rattle.bench.specs.declared.play.Played.{Played as PlayedList}
-use Rattle.bench.specs.declared.play.Ending.{Ending}
-use Rattle.bench.specs.declared.play.Ending.TheVariants.{Played, Ragged, Short}
+use Rattle.bench.specs.declared.play.Played.{Played}
+use Rattle.bench.specs.declared.play.Unplayed.{Unplayed}
+use Rattle.bench.specs.declared.play.Unplayed.TheVariants.{Ragged, Short}
 
 -- the bench after a list of events, and the numbers of their answers. Each event is played on the bench that the
 -- last one left behind.
@@ -35,15 +35,14 @@ events_in zero bs = []
 events_in (suc k) bs = event_from bs ∷ events_in k (drop event_bytes bs)
 
 -- a list of bytes is played if they are whole events and there is room for the answers
-unfoldable pub ending_of : ℕ → ℕ → Ending
+unfoldable pub ending_of : ℕ → ℕ → Result (Unit {0}) Unplayed
 ending_of bytes room =
-    if eqb (bytes % event_bytes) 0 then (if leb (bytes / event_bytes) room then Played else Short) else Ragged
+    if eqb (bytes % event_bytes) 0 then (if leb (bytes / event_bytes) room then Ok tt else Err Short) else Err Ragged
 
 -- the events that are played
-unfoldable pub played_by : Ending → List ℕ → List Event
-played_by Played bs = events_in (length bs / event_bytes) bs
-played_by Ragged bs = []
-played_by Short bs = []
+unfoldable pub played_by : Result (Unit {0}) Unplayed → List ℕ → List Event
+played_by (Ok _) bs = events_in (length bs / event_bytes) bs
+played_by (Err _) bs = []
 
 abbrev pub events_played : List ℕ → ℕ → List Event
 events_played bs room = played_by (ending_of (length bs) room) bs
@@ -53,7 +52,7 @@ unfoldable pub written : List ℕ → List ℕ → List ℕ
 written xs ys = xs ++ drop (length xs) ys
 
 -- playing a list of bytes into a fresh bench: what is handed back, and the bytes lent for the answers as they then are
-unfoldable pub played_of : Limits → ℕ → List ℕ → List ℕ → ℕ → PlayedList
+unfoldable pub played_of : Limits → ℕ → List ℕ → List ℕ → ℕ → Played
 played_of L n marks bs room =
     record {
       bench = bench_after L n marks (events_played bs room);

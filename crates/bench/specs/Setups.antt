@@ -1,5 +1,5 @@
 -- Document 01, "Where an event or file stops": the call for a fresh bench, from n and the marks of the boards.
-use Rattle.std.specs.Prelude.{ℕ, Bool, List, eqb, leb, replicate}
+use Rattle.std.specs.Prelude.{ℕ, Bool, List, Result, Ok, Err, eqb, leb, replicate}
 use Rattle.signer.specs.FromOne.{nth}
 use Rattle.std.specs.Prelude.{if◌then◌else◌}
 use Rattle.signer.specs.Signer.{fresh_signer}
@@ -11,8 +11,8 @@ use Rattle.delivery.specs.Owed.{nothing_owed}
 use Rattle.vote.specs.Boards.{fresh_board}
 use Rattle.bench.specs.declared.bench.Bench.{Bench}
 use Rattle.bench.specs.declared.fresh.Fresh.{Fresh}
-use Rattle.bench.specs.declared.answer.FreshAnswer.{FreshAnswer}
-use Rattle.bench.specs.declared.answer.FreshAnswer.TheVariants.{Made, NoBus, NoMark}
+use Rattle.bench.specs.declared.answer.SetupFault.{SetupFault}
+use Rattle.bench.specs.declared.answer.SetupFault.TheVariants.{NoBus, NoMark}
 
 -- a mark is 0, sound, or 1, faulty; board k's is the k-th
 abbrev pub is_mark : ℕ → Bool
@@ -25,8 +25,8 @@ unfoldable pub is_marked_sound : List ℕ → ℕ → Bool
 is_marked_sound marks k = eqb (nth marks k 0) 0
 
 -- the answer to the call: n is looked at first, then the marks of boards 1 to n, and no others
-unfoldable pub fresh_answer : Limits → ℕ → List ℕ → FreshAnswer
-fresh_answer L n marks = if is_board L n then (if every_in n (is_mark_at marks) then Made else NoMark) else NoBus
+unfoldable pub fresh_answer : Limits → ℕ → List ℕ → Result (Unit {0}) SetupFault
+fresh_answer L n marks = if is_board L n then (if every_in n (is_mark_at marks) then Ok tt else Err NoMark) else Err NoBus
 
 -- how many boards there are, and which are sound
 pub record Setup : Type 0 where
@@ -38,10 +38,9 @@ abbrev pub alone : Setup
 alone = record { n = 1; sound = with_board 0 1 }
 
 -- what the call asks for, or one sound board where it is refused
-unfoldable pub setup_by : FreshAnswer → ℕ → List ℕ → Setup
-setup_by Made n marks = record { n = n; sound = set_of n (is_marked_sound marks) }
-setup_by NoBus n marks = alone
-setup_by NoMark n marks = alone
+unfoldable pub setup_by : Result (Unit {0}) SetupFault → ℕ → List ℕ → Setup
+setup_by (Ok _) n marks = record { n = n; sound = set_of n (is_marked_sound marks) }
+setup_by (Err _) n marks = alone
 
 abbrev pub setup : Limits → ℕ → List ℕ → Setup
 setup L n marks = setup_by (fresh_answer L n marks) n marks

@@ -1,6 +1,6 @@
 -- Document 01, "Where an event or file stops": the rows of the table that events meet, in its order. Each says when it
 -- applies, of the event e and, where it asks for more, the bench c as it then is.
-use Rattle.std.specs.Prelude.{ℕ, Bool, true, false, List, [], ◌∷◌, eqb, leb, ltb}
+use Rattle.std.specs.Prelude.{ℕ, Bool, true, false, List, [], ◌∷◌, ◌++◌, Result, Ok, Err, eqb, leb, ltb}
 use Rattle.signer.specs.FromOne.{is_within}
 use Rattle.std.specs.Prelude.{if◌then◌else◌}
 use Rattle.signer.specs.Log.{is_identifier, entry_of}
@@ -21,9 +21,8 @@ use Rattle.bench.specs.Events.{proposing, turning, delivering, announcing, suspe
 use Rattle.bench.specs.Benches.{is_sound, board_at, signer_at, heard_by, signed_by}
 use Rattle.bench.specs.declared.bench.Bench.{Bench}
 use Rattle.bench.specs.declared.event.Event.{Event}
-use Rattle.bench.specs.declared.answer.Answer.{Answer}
-use Rattle.bench.specs.declared.answer.Answer.TheVariants.{
-  Accepted,
+use Rattle.bench.specs.declared.answer.Refusal.{Refusal}
+use Rattle.bench.specs.declared.answer.Refusal.TheVariants.{
   NoKind,
   NoBoard,
   WrongField,
@@ -53,6 +52,11 @@ is_waiting Waiting = true
 unfoldable pub refuses : Limits → Signer → Said → Bool
 refuses L s Nothing = false
 refuses L s (One x) = neg (grants L.identifiers s x.id.0)
+
+unfoldable pub must_wait : Limits → Bench → ℕ → Bool
+must_wait L c k =
+    let t = turn L c.n k (board_at L c k) in
+    is_waiting t.answer or refuses L (signer_at L c k) t.signed
 
 -- 10: the kind is none
 unfoldable pub kind_row : Event → Bool
@@ -125,19 +129,24 @@ module _ (L : Limits) (c : Bench) (e : Event) where
 
   -- 22: the board waits
   unfoldable pub turn_row : Bool
-  turn_row =
-      is e turning
-      and (is_waiting (turn L c.n e.a (board_at L c e.a)).answer
-      or refuses L (signer_at L c e.a) (turn L c.n e.a (board_at L c e.a)).signed)
+  turn_row = is e turning and must_wait L c e.a
 
 -- the first of some rows that applies; where none does, the event is accepted
-unfoldable pub first_of : List (Bool × Answer) → Answer
-first_of [] = Accepted
-first_of (row ∷ rows) = if row.0 then row.1 else first_of rows
+unfoldable pub first_of : List (Bool × Refusal) → Result (Unit {0}) Refusal
+first_of [] = Ok tt
+first_of (row ∷ rows) = if row.0 then Err row.1 else first_of rows
 
--- the rows about how things stand with the boards and signers that the event names, and before them those about the event
--- and the marks
-abbrev pub state_rows : Limits → Bench → Event → List (Bool × Answer)
+-- after the kind's, the rows about the event and the marks, those about how things stand with the boards and signers that it names, and the
+-- one about what comes of a turn
+abbrev pub event_rows : Limits → Bench → Event → List (Bool × Refusal)
+event_rows L c e =
+    (boards_row c e, NoBoard)
+    ∷ (fields_row L e, WrongField)
+    ∷ (mark_row c e, WrongMark)
+    ∷ (pair_row e, SameBoard)
+    ∷ []
+
+abbrev pub state_rows : Limits → Bench → Event → List (Bool × Refusal)
 state_rows L c e =
     (start_row L c e, WrongStart)
     ∷ (end_row L c e, AtEnd)
@@ -146,17 +155,13 @@ state_rows L c e =
     ∷ (delivered_row L c e, AlreadyDelivered)
     ∷ (announcer_row L c e, NotDecided)
     ∷ (ballots_row L c e, FewBallots)
-    ∷ (turn_row L c e, MustWait)
     ∷ []
 
-abbrev pub table_of : Limits → Bench → Event → List (Bool × Answer)
-table_of L c e =
-    (kind_row e, NoKind)
-    ∷ (boards_row c e, NoBoard)
-    ∷ (fields_row L e, WrongField)
-    ∷ (mark_row c e, WrongMark)
-    ∷ (pair_row e, SameBoard)
-    ∷ state_rows L c e
+abbrev pub turn_rows : Limits → Bench → Event → List (Bool × Refusal)
+turn_rows L c e = (turn_row L c e, MustWait) ∷ []
 
-unfoldable pub check_of : Limits → Bench → Event → Answer
+abbrev pub table_of : Limits → Bench → Event → List (Bool × Refusal)
+table_of L c e = (kind_row e, NoKind) ∷ (event_rows L c e ++ (state_rows L c e ++ turn_rows L c e))
+
+unfoldable pub check_of : Limits → Bench → Event → Result (Unit {0}) Refusal
 check_of L c e = first_of (table_of L c e)

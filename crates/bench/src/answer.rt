@@ -1,20 +1,18 @@
 ghost use Rattle.std.specs.Prelude.{◌≡◌};
-ghost use Rattle.bench.specs.Answers.{fresh_number, answer_number, is_accepted};
+ghost use Rattle.bench.specs.Answers.{fault_number, refusal_number, answer_number};
 
 use vote::Answer as TurnAnswer;
 
-// How the call for a fresh bench is answered.
-#[derive(Clone, Copy)]
-pub enum FreshAnswer {
-    Made,
+// Why the call for a fresh bench is refused.
+#[derive(Clone, Copy, Debug, PartialEq, Eq)]
+pub enum SetupFault {
     NoBus,
     NoMark,
 }
 
-// How an event is answered: accepted, or by the first row of the table that applies.
-#[derive(Clone, Copy)]
-pub enum Answer {
-    Accepted,
+// Why an event is refused: the first row of the table that applies.
+#[derive(Clone, Copy, Debug, PartialEq, Eq)]
+pub enum Refusal {
     NoKind,
     NoBoard,
     WrongField,
@@ -30,49 +28,50 @@ pub enum Answer {
     MustWait,
 }
 
-impl FreshAnswer {
-    // The answer's number in document 01's table.
-    #[tactic(auto, unfolding(crate::specs::Answers::fresh_number))]
+impl SetupFault {
+    // Its number in document 01's table.
+    #[tactic(auto, unfolding(crate::specs::Answers::fault_number))]
     pub fn number(self) -> u8
-        ensures { result ≡ fresh_number self }
+        ensures { result ≡ fault_number self }
     {
         match self {
-            FreshAnswer::Made => 0,
-            FreshAnswer::NoBus => 2,
-            FreshAnswer::NoMark => 3,
+            SetupFault::NoBus => 2,
+            SetupFault::NoMark => 3,
         }
     }
 }
 
-impl Answer {
-    // The answer's number in document 01's table. Those that a board gives to its turn have the vote's.
-    #[tactic(auto, unfolding(crate::specs::Answers::answer_number))]
+impl Refusal {
+    // Its number in document 01's table. Those that a board gives to its turn have the vote's.
+    #[tactic(auto, unfolding(crate::specs::Answers::refusal_number))]
     pub fn number(self) -> u8
-        ensures { result ≡ answer_number self }
+        ensures { result ≡ refusal_number self }
     {
         match self {
-            Answer::Accepted => TurnAnswer::Done.number(),
-            Answer::NoKind => 10,
-            Answer::NoBoard => 11,
-            Answer::WrongField => 12,
-            Answer::WrongMark => 13,
-            Answer::SameBoard => 14,
-            Answer::WrongStart => TurnAnswer::NotStarted.number(),
-            Answer::AtEnd => TurnAnswer::Ended.number(),
-            Answer::NotSigned => 17,
-            Answer::NotAbove => 18,
-            Answer::AlreadyDelivered => 19,
-            Answer::NotDecided => 20,
-            Answer::FewBallots => 21,
-            Answer::MustWait => TurnAnswer::Waiting.number(),
+            Refusal::NoKind => 10,
+            Refusal::NoBoard => 11,
+            Refusal::WrongField => 12,
+            Refusal::WrongMark => 13,
+            Refusal::SameBoard => 14,
+            Refusal::WrongStart => TurnAnswer::NotStarted.number(),
+            Refusal::AtEnd => TurnAnswer::Ended.number(),
+            Refusal::NotSigned => 17,
+            Refusal::NotAbove => 18,
+            Refusal::AlreadyDelivered => 19,
+            Refusal::NotDecided => 20,
+            Refusal::FewBallots => 21,
+            Refusal::MustWait => TurnAnswer::Waiting.number(),
         }
     }
 
-    // Whether the event is accepted: it is answered 0.
-    #[tactic(auto, unfolding(crate::specs::Answers::is_accepted))]
-    pub fn is_accepted(self) -> bool
-        ensures { result ≡ is_accepted self }
+    // An answer's number in that table; 0 where the event is accepted.
+    #[tactic(auto, unfolding(crate::specs::Answers::answer_number))]
+    pub fn number_of(answer: Result<(), Refusal>) -> u8
+        ensures { result ≡ answer_number answer }
     {
-        self.number() == 0
+        match answer {
+            Ok(()) => 0,
+            Err(refusal) => refusal.number(),
+        }
     }
 }

@@ -2,7 +2,6 @@ ghost use Rattle.std.specs.Prelude.{◌≡◌};
 ghost use Rattle.delivery.specs.Limits.{limits};
 ghost use Rattle.delivery.specs.Owed.{receivers};
 ghost use Rattle.bench.specs.Benches.{is_sound, board_at, signer_at, heard_by, signed_by, holders};
-ghost use Rattle.bench.specs.declared.bench.Bench.{Bench};
 
 use delivery::{Delivered, Owed, set};
 use signer::{Identifier, Signer};
@@ -23,75 +22,68 @@ impl Bench {
     pub const BOARDS: u8 = Delivered::BOARDS;
 
     // Whether board k is marked sound.
-    pub fn is_sound(self, k: u8) -> bool
-        ensures { result ≡ is_sound self k }
+    pub fn is_sound(&self, k: u8) -> bool
+        ensures { result ≡ is_sound self.now k }
     {
         set::has(self.sound, k)
     }
 
     // Board k; a fresh one where the number is no board's.
     #[tactic(auto, using(crate::proofs::Rules::rules_bench_bench_board), unfolding(crate::specs::Benches::board_at))]
-    pub fn board(self, k: u8) -> Board
-        ensures { result ≡ board_at limits self k }
+    pub fn board(&self, k: u8) -> Board
+        ensures { result ≡ board_at limits self.now k }
     {
-        if !Delivered::is_board(k) {
-            return Board::fresh();
+        if Delivered::is_board(k) {
+            self.boards[k as usize - 1]
+        } else {
+            Board::fresh()
         }
-        let boards = self.boards;
-        boards[(k - 1) as usize]
     }
 
     // Board k's signer; a fresh one where the number is no board's.
-    #[tactic(auto, using(crate::proofs::Rules::rules_bench_bench_signer), unfolding(crate::specs::Benches::signer_at))]
-    pub fn signer(self, k: u8) -> Signer
-        ensures { result ≡ signer_at limits self k }
+    #[tactic(auto, using(crate::proofs::Rules::rules_bench_bench_board), unfolding(crate::specs::Benches::signer_at))]
+    pub fn signer(&self, k: u8) -> Signer
+        ensures { result ≡ signer_at limits self.now k }
     {
-        if !Delivered::is_board(k) {
-            return Signer::fresh();
+        if Delivered::is_board(k) {
+            self.signers[k as usize - 1]
+        } else {
+            Signer::fresh()
         }
-        let signers = self.signers;
-        signers[(k - 1) as usize]
     }
 
     // What board k has delivered from a speaker under an identifier, as a log's entry.
-    pub fn delivered(self, k: u8, speaker: u8, id: Identifier) -> u32
-        ensures { result ≡ heard_by limits self k speaker id.0 }
+    pub fn delivered(&self, k: u8, speaker: u8, id: Identifier) -> u32
+        ensures { result ≡ heard_by limits self.now k speaker id.0 }
     {
         self.board(k).delivered.entry(speaker, id)
     }
 
     // What board k's signer has signed under an identifier, as a log's entry.
     #[tactic(auto, unfolding(crate::specs::Benches::signed_by))]
-    pub fn signed(self, k: u8, id: Identifier) -> u32
-        ensures { result ≡ signed_by limits self k id.0 }
+    pub fn signed(&self, k: u8, id: Identifier) -> u32
+        ensures { result ≡ signed_by limits self.now k id.0 }
     {
         self.signer(k).entry(id)
     }
 
     // The boards to which a copy of a speaker's statement is owed.
-    pub fn owed(self, speaker: u8, id: Identifier) -> u16
-        ensures { result ≡ receivers limits self.owed speaker id.0 }
+    pub fn owed(&self, speaker: u8, id: Identifier) -> u16
+        ensures { result ≡ receivers limits self.now.owed speaker id.0 }
     {
         self.owed.receivers(speaker, id)
     }
 
-    // Of some boards, those that have delivered a speaker's statement under an identifier.
-    #[tactic(auto, using(crate::proofs::Rules::rules_bench_bench_holders_in), unfolding(crate::specs::Benches::holders, crate::specs::Benches::board_at))]
-    pub(crate) fn holders_in(
-        boards: [Board; Bench::BOARDS as usize],
-        speaker: u8,
-        id: Identifier,
-    ) -> u16
-        ensures { (c : Bench) → c.boards ≡ boards → result ≡ holders limits c speaker id.0 }
+    // The boards that have delivered a speaker's statement under an identifier.
+    #[tactic(auto, using(crate::proofs::Rules::rules_bench_bench_holders), unfolding(crate::specs::Benches::holders))]
+    pub(crate) fn holders(&self, speaker: u8, id: Identifier) -> u16
+        ensures { result ≡ holders limits self.now speaker id.0 }
     {
         let mut have = 0u16;
-        let mut k = 0u8;
-        while k < Bench::BOARDS {
-            let board = boards[k as usize];
+        for (i, board) in self.boards.iter().enumerate() {
             if board.delivered.entry(speaker, id) != 0 {
-                have = set::with(have, k + 1);
+                have = set::with(have, i as u8 + 1);
             }
-            k += 1;
         }
         have
     }

@@ -1,8 +1,22 @@
 ghost use Rattle.std.specs.Prelude.{◌≡◌, get_or};
-ghost use Rattle.bench.specs.Events.{high_first, event_from};
+ghost use Rattle.bench.specs.Events.{kind_number, kind_of, uses_other, uses_id, uses_value, high_first, event_from};
+
+use crate::answer::Refusal;
+
+// The kinds of events, by their numbers in a schedule.
+#[derive(Clone, Copy, Debug, PartialEq, Eq)]
+pub enum Kind {
+    Propose = 1,
+    Turn,
+    Deliver,
+    Announce,
+    Suspect,
+    Trust,
+    Sign,
+}
 
 // An event as it stands in a schedule, whatever its fields hold.
-#[derive(Clone, Copy)]
+#[derive(Clone, Copy, Debug, PartialEq, Eq)]
 pub struct Event {
     pub kind: u8,
     pub a: u8,
@@ -11,32 +25,63 @@ pub struct Event {
     pub value: u16,
 }
 
+impl TryFrom<u8> for Kind {
+    type Error = Refusal;
+
+    ghost try_from_gives = { λ number r. r ≡ kind_of number };
+
+    #[tactic(auto, unfolding(crate::specs::Events::kind_of))]
+    fn try_from(number: u8) -> Result<Kind, Refusal> {
+        match number {
+            1 => Ok(Kind::Propose),
+            2 => Ok(Kind::Turn),
+            3 => Ok(Kind::Deliver),
+            4 => Ok(Kind::Announce),
+            5 => Ok(Kind::Suspect),
+            6 => Ok(Kind::Trust),
+            7 => Ok(Kind::Sign),
+            _ => Err(Refusal::NoKind),
+        }
+    }
+}
+
+impl Kind {
+    // Whether it names a second board.
+    #[tactic(auto, using(crate::proofs::Rules::rules_tests), unfolding(crate::specs::Events::kind_number, crate::specs::Events::uses_other))]
+    pub(crate) fn uses_other(self) -> bool
+        ensures { result ≡ uses_other (kind_number self) }
+    {
+        matches!(
+            self,
+            Kind::Deliver | Kind::Announce | Kind::Suspect | Kind::Trust
+        )
+    }
+
+    // Whether it has an identifier or a round.
+    #[tactic(auto, using(crate::proofs::Rules::rules_tests), unfolding(crate::specs::Events::kind_number, crate::specs::Events::uses_id))]
+    pub(crate) fn uses_id(self) -> bool
+        ensures { result ≡ uses_id (kind_number self) }
+    {
+        matches!(self, Kind::Deliver | Kind::Announce | Kind::Sign)
+    }
+
+    // Whether it has a value.
+    #[tactic(auto, using(crate::proofs::Rules::rules_tests), unfolding(crate::specs::Events::kind_number, crate::specs::Events::uses_value, crate::specs::Events::uses_id))]
+    pub(crate) fn uses_value(self) -> bool
+        ensures { result ≡ uses_value (kind_number self) }
+    {
+        self == Kind::Propose || self.uses_id()
+    }
+}
+
 // A byte of a list; 0 past its end.
 fn byte(bytes: &[u8], at: usize) -> u8
     ensures { result ≡ get_or bytes.now at 0 }
 {
-    if at < bytes.len() {
-        return bytes[at];
-    }
-    0
+    bytes.get(at).copied().unwrap_or(0)
 }
 
 impl Event {
-    // The kinds.
-    pub const PROPOSE: u8 = 1;
-
-    pub const TURN: u8 = 2;
-
-    pub const DELIVER: u8 = 3;
-
-    pub const ANNOUNCE: u8 = 4;
-
-    pub const SUSPECT: u8 = 5;
-
-    pub const TRUST: u8 = 6;
-
-    pub const SIGN: u8 = 7;
-
     // The bytes of an event in a list of them.
     pub const BYTES: usize = 6;
 
@@ -44,7 +89,7 @@ impl Event {
     pub fn high_first(high: u8, low: u8) -> u16
         ensures { result ≡ high_first high low }
     {
-        (high as u16) * 256 + low as u16
+        u16::from_be_bytes([high, low])
     }
 
     // The event that the first bytes of a list are; bytes that are not there count as 0.
@@ -52,18 +97,12 @@ impl Event {
     pub fn read(bytes: &[u8]) -> Event
         ensures { result ≡ event_from bytes.now }
     {
-        let kind = byte(bytes, 0);
-        let a = byte(bytes, 1);
-        let b = byte(bytes, 2);
-        let id = byte(bytes, 3);
-        let high = byte(bytes, 4);
-        let low = byte(bytes, 5);
         Event {
-            kind,
-            a,
-            b,
-            id,
-            value: Event::high_first(high, low),
+            kind: byte(bytes, 0),
+            a: byte(bytes, 1),
+            b: byte(bytes, 2),
+            id: byte(bytes, 3),
+            value: Event::high_first(byte(bytes, 4), byte(bytes, 5)),
         }
     }
 }

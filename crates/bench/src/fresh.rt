@@ -1,11 +1,12 @@
-ghost use Rattle.std.specs.Prelude.{◌≤◌, ◌≡◌};
+ghost use Rattle.std.specs.Prelude.{◌≤◌, ◌≡◌, Ok, Err};
+ghost use Rattle.std.specs.Prelude.{if◌then◌else◌};
 ghost use Rattle.delivery.specs.Limits.{limits};
 ghost use Rattle.delivery.specs.Counting.{every_in};
 ghost use Rattle.delivery.specs.Sets.{set_of};
-ghost use Rattle.signer.specs.FromOne.{nth};
-ghost use Rattle.bench.specs.Setups.{is_mark, is_mark_at, is_marked_sound, alone, fresh_of, bench_of};
+ghost use Rattle.bench.specs.Setups.{is_mark, is_mark_at, is_marked_sound, alone, fresh_answer, setup_by, fresh_of, bench_of};
+ghost use Rattle.bench.specs.declared.answer.SetupFault.TheVariants.{NoMark};
 
-use crate::answer::FreshAnswer;
+use crate::answer::SetupFault;
 use crate::bench::Bench;
 use delivery::{Delivered, Owed, set};
 use signer::Signer;
@@ -15,50 +16,25 @@ use vote::Board;
 #[derive(Clone, Copy)]
 pub struct Fresh {
     pub bench: Bench,
-    pub answer: FreshAnswer,
+    pub answer: Result<(), SetupFault>,
 }
 
-// The mark of board k; sound where there is none.
-#[tactic(auto, using(crate::proofs::Rules::rules_fresh_mark))]
-fn mark(marks: [u8; Bench::BOARDS as usize], k: u8) -> u8
-    ensures { result ≡ nth marks k 0 }
-{
-    if !Delivered::is_board(k) {
-        return 0;
-    }
-    marks[(k - 1) as usize]
-}
-
-// Whether the marks of boards 1 to n are marks.
-#[tactic(auto, using(crate::proofs::Rules::rules_fresh_are_marks), unfolding(crate::specs::Setups::is_mark_at))]
-fn are_marks(marks: [u8; Bench::BOARDS as usize], n: u8) -> bool
-    ensures { result ≡ every_in n (is_mark_at marks) }
-{
-    let mut k = 0u8;
-    while k < n {
-        if !Bench::is_mark(mark(marks, k + 1)) {
-            return false;
-        }
-        k += 1;
-    }
-    true
-}
-
-// The boards of 1 to n that are marked sound.
-#[tactic(auto, using(crate::proofs::Rules::rules_fresh_sound_of), unfolding(crate::specs::Setups::is_marked_sound))]
-fn sound_of(marks: [u8; Bench::BOARDS as usize], n: u8) -> u16
+// The boards of 1 to n that are marked sound, if the marks of all of these are marks.
+#[tactic(auto, using(crate::proofs::Rules::rules_fresh_sound_of), unfolding(crate::specs::Setups::is_mark_at, crate::specs::Setups::is_marked_sound))]
+fn sound_of(n: u8, marks: &[u8; Bench::BOARDS as usize]) -> Result<u16, SetupFault>
     requires { n ≤ limits.boards }
-    ensures { result ≡ set_of n (is_marked_sound marks) }
+    ensures { result ≡ (if every_in n (is_mark_at marks.now) then Ok (set_of n (is_marked_sound marks.now)) else Err NoMark) }
 {
     let mut sound = 0u16;
-    let mut k = 0u8;
-    while k < n {
-        if mark(marks, k + 1) == 0 {
-            sound = set::with(sound, k + 1);
+    for (i, mark) in marks[..n as usize].iter().enumerate() {
+        if !Bench::is_mark(*mark) {
+            return Err(SetupFault::NoMark);
         }
-        k += 1;
+        if *mark == 0 {
+            sound = set::with(sound, i as u8 + 1);
+        }
     }
-    sound
+    Ok(sound)
 }
 
 impl Bench {
@@ -74,24 +50,23 @@ impl Bench {
     fn of(n: u8, sound: u16) -> Bench
         ensures { result ≡ bench_of limits n sound }
     {
-        let board = Board::fresh();
-        let signer = Signer::fresh();
-        let owed = Owed::none();
         Bench {
             n,
             sound,
-            boards: [board; Bench::BOARDS as usize],
-            signers: [signer; Bench::BOARDS as usize],
-            owed,
+            boards: [Board::fresh(); Bench::BOARDS as usize],
+            signers: [Signer::fresh(); Bench::BOARDS as usize],
+            owed: Owed::none(),
         }
     }
 
     // The fresh bench of one sound board, with the answer why it is no other.
-    fn refused(answer: FreshAnswer) -> Fresh
-        ensures { result ≡ record { bench = bench_of limits alone.n alone.sound; answer = answer } }
+    fn refused(fault: SetupFault) -> Fresh
+        ensures { result ≡ record { bench = bench_of limits alone.n alone.sound; answer = Err fault } }
     {
-        let bench = Bench::of(1, set::with(0, 1));
-        Fresh { bench, answer }
+        Fresh {
+            bench: Bench::of(1, set::with(0, 1)),
+            answer: Err(fault),
+        }
     }
 
     // A fresh bench of n boards; marks are 0 for sound and 1 for faulty, and those after the n-th are not read.
@@ -100,13 +75,14 @@ impl Bench {
         ensures { result ≡ fresh_of limits n marks }
     {
         if !Delivered::is_board(n) {
-            return Bench::refused(FreshAnswer::NoBus);
+            return Bench::refused(SetupFault::NoBus);
         }
-        if !are_marks(marks, n) {
-            return Bench::refused(FreshAnswer::NoMark);
+        match sound_of(n, &marks) {
+            Ok(sound) => Fresh {
+                bench: Bench::of(n, sound),
+                answer: Ok(()),
+            },
+            Err(fault) => Bench::refused(fault),
         }
-        let bench = Bench::of(n, sound_of(marks, n));
-        let answer = FreshAnswer::Made;
-        Fresh { bench, answer }
     }
 }

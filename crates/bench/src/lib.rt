@@ -8,15 +8,14 @@ mod bench;
 mod effect;
 mod event;
 mod fresh;
-mod parts;
 mod play;
 mod show;
 mod table;
 
-pub use answer::{Answer, FreshAnswer};
+pub use answer::{Refusal, SetupFault};
 pub use bench::Bench;
 pub use effect::Outcome;
-pub use event::Event;
+pub use event::{Event, Kind};
 pub use fresh::Fresh;
-pub use play::{Ending, Played};
+pub use play::{Played, Unplayed};
 pub use show::{Letter, Shown};

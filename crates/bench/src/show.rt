@@ -8,7 +8,7 @@ use signer::from_one;
 use vote::{Board, Status};
 
 // How a board stands; a number that is no board of the bench is absent.
-#[derive(Clone, Copy)]
+#[derive(Clone, Copy, Debug, PartialEq, Eq)]
 pub enum Letter {
     Faulty,
     NotStarted,
@@ -85,8 +85,8 @@ fn standing(board: Board) -> Shown
 impl Bench {
     // How board k stands: its letter, its round and its value.
     #[tactic(auto, using(crate::proofs::Rules::rules_bench_bench_shown), unfolding(crate::specs::Shows::shown))]
-    pub fn shown(self, k: u8) -> Shown
-        ensures { result ≡ shown limits self k }
+    pub fn shown(&self, k: u8) -> Shown
+        ensures { result ≡ shown limits self.now k }
     {
         if !from_one::within(k, self.n) {
             return Shown {

@@ -1,136 +1,73 @@
-ghost use Rattle.std.specs.Prelude.{◌≡◌, false};
+ghost use Rattle.std.specs.Prelude.{◌≡◌, Ok, Err, IfOk, IfErr};
+ghost use Rattle.std.specs.Prelude.{if◌then◌else◌};
 ghost use Rattle.delivery.specs.Limits.{limits};
-ghost use Rattle.bench.specs.Benches.{board_at, signer_at, signed_by};
-ghost use Rattle.bench.specs.Events.{delivering, announcing, uses_other, uses_id, uses_value};
-ghost use Rattle.bench.specs.declared.bench.Bench.{Bench};
-ghost use Rattle.bench.specs.Parts.{Has, then_last, Checks};
-ghost use Rattle.delivery.specs.Tests.{◌or◌};
-ghost use Rattle.vote.specs.Boards.{has_decided};
-ghost use Rattle.bench.specs.Table.{kind_row, boards_row, wrong_other, wrong_id, wrong_value, fields_row, mark_row, pair_row, start_row, end_row, signed_row, last_row, delivered_row, announcer_row, ballots_row, is_waiting, refuses, turn_row, state_rows, first_of};
+ghost use Rattle.bench.specs.Events.{kind_number};
+ghost use Rattle.vote.specs.Turns.{turn};
+ghost use Rattle.bench.specs.Benches.{board_at};
+ghost use Rattle.bench.specs.declared.answer.Refusal.TheVariants.{MustWait};
+ghost use Rattle.bench.specs.Table.{boards_row, wrong_other, wrong_id, wrong_value, fields_row, mark_row, pair_row, start_row, end_row, signed_row, last_row, delivered_row, announcer_row, ballots_row, is_waiting, refuses, must_wait, first_of, event_rows, state_rows, turn_rows, check_of};
 
-use crate::answer::Answer;
-use crate::event::Event;
-use crate::parts::Rest;
+use crate::answer::Refusal;
+use crate::bench::Bench;
+use crate::event::{Event, Kind};
 use delivery::{Round, bus, set};
 use signer::{Identifier, Log, Signer, from_one};
-use vote::{Answer as TurnAnswer, Board, Said};
+use vote::{Answer as TurnAnswer, Said, Turn};
 
-// What the table asks of an event alone.
+// A row of the table: the event is refused so where it applies.
+fn refuse_if(applies: bool, refusal: Refusal) -> Result<(), Refusal>
+    ensures { result ≡ (if applies then Err refusal else Ok tt) }
+{
+    if applies { Err(refusal) } else { Ok(()) }
+}
+
+// What the table asks of an event of a kind alone.
 impl Event {
-    // Whether the kind names a second board.
-    #[tactic(auto, using(crate::proofs::Rules::rules_event_event_uses_other), unfolding(crate::specs::Events::uses_other))]
-    fn uses_other(self) -> bool
-        ensures { result ≡ uses_other self.kind }
-    {
-        if self.kind == Event::DELIVER {
-            return true;
-        }
-        if self.kind == Event::ANNOUNCE {
-            return true;
-        }
-        if self.kind == Event::SUSPECT {
-            return true;
-        }
-        self.kind == Event::TRUST
-    }
-
-    // Whether it has an identifier or a round.
-    #[tactic(auto, using(crate::proofs::Rules::rules_event_event_uses_id), unfolding(crate::specs::Events::uses_id))]
-    fn uses_id(self) -> bool
-        ensures { result ≡ uses_id self.kind }
-    {
-        if self.kind == Event::DELIVER {
-            return true;
-        }
-        if self.kind == Event::ANNOUNCE {
-            return true;
-        }
-        self.kind == Event::SIGN
-    }
-
-    // Whether it has a value.
-    #[tactic(auto, using(crate::proofs::Rules::rules_event_event_uses_value), unfolding(crate::specs::Events::uses_value))]
-    fn uses_value(self) -> bool
-        ensures { result ≡ uses_value self.kind }
-    {
-        if self.kind == Event::PROPOSE {
-            return true;
-        }
-        self.uses_id()
-    }
-
-    #[tactic(auto, using(crate::proofs::Rules::rules_event_event_kind_row), unfolding(crate::specs::Table::kind_row))]
-    fn kind_row(self) -> bool
-        ensures { result ≡ kind_row self }
-    {
-        !from_one::within(self.kind, Event::SIGN)
-    }
-
-    #[tactic(auto, using(crate::proofs::Rules::rules_event_event_wrong_other), unfolding(crate::specs::Table::wrong_other))]
-    fn wrong_other(self) -> bool
+    #[tactic(auto, using(crate::proofs::Rules::rules_tests), unfolding(crate::specs::Table::wrong_other))]
+    fn wrong_other(self, kind: Kind) -> bool
+        requires { kind_number kind ≡ self.kind }
         ensures { result ≡ wrong_other self }
     {
-        if self.uses_other() {
-            return false;
-        }
-        self.b != 0
+        !kind.uses_other() && self.b != 0
     }
 
-    #[tactic(auto, using(crate::proofs::Rules::rules_event_event_wrong_id), unfolding(crate::specs::Table::wrong_id, crate::specs::Events::uses_id))]
-    fn wrong_id(self) -> bool
+    #[tactic(auto, using(crate::proofs::Rules::rules_tests), unfolding(crate::specs::Table::wrong_id, crate::specs::Events::uses_id, crate::specs::Events::kind_number))]
+    fn wrong_id(self, kind: Kind) -> bool
+        requires { kind_number kind ≡ self.kind }
         ensures { result ≡ wrong_id limits self }
     {
-        if self.kind == Event::ANNOUNCE {
-            let round = Round(self.id);
-            return !round.in_range();
+        match kind {
+            Kind::Announce => !Round(self.id).in_range(),
+            Kind::Deliver | Kind::Sign => !Identifier(self.id).in_range(),
+            _ => self.id != 0,
         }
-        if self.uses_id() {
-            let id = Identifier(self.id);
-            return !id.in_range();
-        }
-        self.id != 0
     }
 
-    #[tactic(auto, using(crate::proofs::Rules::rules_event_event_wrong_value), unfolding(crate::specs::Table::wrong_value, crate::specs::Events::uses_value, crate::specs::Events::uses_id))]
-    fn wrong_value(self) -> bool
+    #[tactic(auto, using(crate::proofs::Rules::rules_tests), unfolding(crate::specs::Table::wrong_value, crate::specs::Events::uses_value, crate::specs::Events::uses_id, crate::specs::Events::kind_number))]
+    fn wrong_value(self, kind: Kind) -> bool
+        requires { kind_number kind ≡ self.kind }
         ensures { result ≡ wrong_value self }
     {
-        if self.kind == Event::PROPOSE {
-            return self.value == Log::BLANK;
+        match kind {
+            Kind::Propose | Kind::Announce => self.value == Log::BLANK,
+            _ => !kind.uses_value() && self.value != 0,
         }
-        if self.kind == Event::ANNOUNCE {
-            return self.value == Log::BLANK;
-        }
-        if self.uses_value() {
-            return false;
-        }
-        self.value != 0
     }
 
-    #[tactic(auto, using(crate::proofs::Rules::rules_event_event_fields_row), unfolding(crate::specs::Table::fields_row))]
-    fn fields_row(self) -> bool
+    #[tactic(auto, using(crate::proofs::Rules::rules_tests), unfolding(crate::specs::Table::fields_row))]
+    fn fields_row(self, kind: Kind) -> bool
+        requires { kind_number kind ≡ self.kind }
         ensures { result ≡ fields_row limits self }
     {
-        if self.wrong_other() {
-            return true;
-        }
-        if self.wrong_id() {
-            return true;
-        }
-        self.wrong_value()
+        self.wrong_other(kind) || self.wrong_id(kind) || self.wrong_value(kind)
     }
 
-    #[tactic(auto, using(crate::proofs::Rules::rules_event_event_pair_row), unfolding(crate::specs::Table::pair_row))]
-    fn pair_row(self) -> bool
+    #[tactic(auto, using(crate::proofs::Rules::rules_tests), unfolding(crate::specs::Table::pair_row, crate::specs::Events::kind_number))]
+    fn pair_row(self, kind: Kind) -> bool
+        requires { kind_number kind ≡ self.kind }
         ensures { result ≡ pair_row self }
     {
-        if self.kind == Event::DELIVER {
-            return false;
-        }
-        if !self.uses_other() {
-            return false;
-        }
-        self.a == self.b
+        matches!(kind, Kind::Announce | Kind::Suspect | Kind::Trust) && self.a == self.b
     }
 }
 
@@ -146,7 +83,7 @@ fn is_waiting(answer: TurnAnswer) -> bool
 }
 
 // Whether a signer refuses what a board has to say.
-#[tactic(auto, using(crate::proofs::Rules::rules_table_refuses), unfolding(crate::specs::Table::refuses))]
+#[tactic(auto, using(crate::proofs::Rules::rules_tests), unfolding(crate::specs::Table::refuses))]
 fn refuses(signer: Signer, said: Said) -> bool
     ensures { result ≡ refuses limits signer said }
 {
@@ -156,177 +93,154 @@ fn refuses(signer: Signer, said: Said) -> bool
     }
 }
 
-// Whether what came of a turn is answered by the last row: the board waits, or its signer refuses what it says.
-#[tactic(auto, using(crate::proofs::Rules::rules_table_must_wait))]
-pub(crate) fn must_wait(answer: TurnAnswer, said: Said, own: Signer) -> bool
-    ensures { result ≡ (is_waiting answer or refuses limits own said) }
-{
-    if is_waiting(answer) {
-        return true;
-    }
-    refuses(own, said)
-}
-
-// What it asks of the parts of a bench that the event looks at.
-impl Event {
-    #[tactic(auto, using(crate::proofs::Rules::rules_event_event_boards_row), unfolding(crate::specs::Table::boards_row))]
-    fn boards_row(self, n: u8) -> bool
-        ensures { (c : Bench) → c.n ≡ n → result ≡ boards_row c self }
+// What it asks of the bench.
+impl Bench {
+    #[tactic(auto, using(crate::proofs::Rules::rules_tests), unfolding(crate::specs::Table::boards_row))]
+    fn boards_row(&self, kind: Kind, e: Event) -> bool
+        requires { kind_number kind ≡ e.kind }
+        ensures { result ≡ boards_row self.now e }
     {
-        if !from_one::within(self.a, n) {
-            return true;
-        }
-        if !self.uses_other() {
-            return false;
-        }
-        !from_one::within(self.b, n)
+        !from_one::within(e.a, self.n) || kind.uses_other() && !from_one::within(e.b, self.n)
     }
 
-    #[tactic(auto, using(crate::proofs::Rules::rules_event_event_mark_row), unfolding(crate::specs::Table::mark_row))]
-    fn mark_row(self, sound: u16) -> bool
-        ensures { (c : Bench) → c.sound ≡ sound → result ≡ mark_row c self }
+    #[tactic(auto, using(crate::proofs::Rules::rules_tests), unfolding(crate::specs::Table::mark_row, crate::specs::Events::kind_number))]
+    fn mark_row(&self, kind: Kind, e: Event) -> bool
+        requires { kind_number kind ≡ e.kind }
+        ensures { result ≡ mark_row self.now e }
     {
-        if self.kind == Event::SIGN {
-            return set::has(sound, self.a);
+        match kind {
+            Kind::Sign => self.is_sound(e.a),
+            _ => !self.is_sound(e.a),
         }
-        !set::has(sound, self.a)
     }
 
-    #[tactic(auto, using(crate::proofs::Rules::rules_event_event_start_row), unfolding(crate::specs::Table::start_row))]
-    fn start_row(self, a: Board) -> bool
-        ensures { (c : Bench) → board_at limits c self.a ≡ a → result ≡ start_row limits c self }
+    #[tactic(auto, using(crate::proofs::Rules::rules_tests), unfolding(crate::specs::Table::start_row, crate::specs::Events::kind_number))]
+    fn start_row(&self, kind: Kind, e: Event) -> bool
+        requires { kind_number kind ≡ e.kind }
+        ensures { result ≡ start_row limits self.now e }
     {
-        if self.kind == Event::PROPOSE {
-            return a.is_started();
+        match kind {
+            Kind::Propose => self.board(e.a).is_started(),
+            Kind::Turn | Kind::Announce => !self.board(e.a).is_started(),
+            _ => false,
         }
-        if self.kind == Event::TURN {
-            return !a.is_started();
-        }
-        if self.kind == Event::ANNOUNCE {
-            return !a.is_started();
-        }
-        false
     }
 
-    #[tactic(auto, using(crate::proofs::Rules::rules_event_event_end_row), unfolding(crate::specs::Table::end_row))]
-    fn end_row(self, a: Board) -> bool
-        ensures { (c : Bench) → board_at limits c self.a ≡ a → result ≡ end_row limits c self }
+    #[tactic(auto, using(crate::proofs::Rules::rules_tests), unfolding(crate::specs::Table::end_row, crate::specs::Events::kind_number))]
+    fn end_row(&self, kind: Kind, e: Event) -> bool
+        requires { kind_number kind ≡ e.kind }
+        ensures { result ≡ end_row limits self.now e }
     {
-        if self.kind == Event::TURN {
-            return a.is_ended();
+        match kind {
+            Kind::Turn => self.board(e.a).is_ended(),
+            Kind::Announce => self.board(e.a).is_decided(),
+            _ => false,
         }
-        if self.kind == Event::ANNOUNCE {
-            return a.is_decided();
-        }
-        false
     }
 
-    #[tactic(auto, using(crate::proofs::Rules::rules_event_event_signed_row), unfolding(crate::specs::Table::signed_row))]
-    fn signed_row(self, signed: u32) -> bool
-        ensures { (c : Bench) → (self.kind ≡ delivering → signed_by limits c self.b self.id ≡ signed) → result ≡ signed_row limits c self }
+    #[tactic(auto, using(crate::proofs::Rules::rules_tests), unfolding(crate::specs::Table::signed_row, crate::specs::Events::kind_number))]
+    fn signed_row(&self, kind: Kind, e: Event) -> bool
+        requires { kind_number kind ≡ e.kind }
+        ensures { result ≡ signed_row limits self.now e }
     {
-        if self.kind != Event::DELIVER {
-            return false;
-        }
-        signed != Log::entry_of(self.value)
+        kind == Kind::Deliver && self.signed(e.b, Identifier(e.id)) != Log::entry_of(e.value)
     }
 
-    #[tactic(auto, using(crate::proofs::Rules::rules_event_event_last_row), unfolding(crate::specs::Table::last_row))]
-    fn last_row(self, own: Signer) -> bool
-        ensures { (c : Bench) → signer_at limits c self.a ≡ own → result ≡ last_row limits c self }
+    #[tactic(auto, using(crate::proofs::Rules::rules_tests), unfolding(crate::specs::Table::last_row, crate::specs::Events::kind_number))]
+    fn last_row(&self, kind: Kind, e: Event) -> bool
+        requires { kind_number kind ≡ e.kind }
+        ensures { result ≡ last_row limits self.now e }
     {
-        if self.kind != Event::SIGN {
-            return false;
-        }
-        let last = own.last;
-        self.id <= last.0
+        kind == Kind::Sign && e.id <= self.signer(e.a).last.0
     }
 
-    #[tactic(auto, using(crate::proofs::Rules::rules_event_event_delivered_row), unfolding(crate::specs::Table::delivered_row))]
-    fn delivered_row(self, a: Board) -> bool
-        ensures { (c : Bench) → board_at limits c self.a ≡ a → result ≡ delivered_row limits c self }
+    #[tactic(auto, using(crate::proofs::Rules::rules_tests), unfolding(crate::specs::Table::delivered_row, crate::specs::Events::kind_number))]
+    fn delivered_row(&self, kind: Kind, e: Event) -> bool
+        requires { kind_number kind ≡ e.kind }
+        ensures { result ≡ delivered_row limits self.now e }
     {
-        if self.kind != Event::DELIVER {
-            return false;
-        }
-        let id = Identifier(self.id);
-        a.delivered.entry(self.b, id) != 0
+        kind == Kind::Deliver && self.delivered(e.a, e.b, Identifier(e.id)) != 0
     }
 
-    #[tactic(auto, using(crate::proofs::Rules::rules_event_event_announcer_row), unfolding(crate::specs::Table::announcer_row))]
-    fn announcer_row(self, sound: u16, decided: bool) -> bool
-        ensures { (c : Bench) → c.sound ≡ sound → (self.kind ≡ announcing → has_decided (board_at limits c self.b).status self.id self.value ≡ decided) → result ≡ announcer_row limits c self }
+    #[tactic(auto, using(crate::proofs::Rules::rules_tests), unfolding(crate::specs::Table::announcer_row, crate::specs::Events::kind_number))]
+    fn announcer_row(&self, kind: Kind, e: Event) -> bool
+        requires { kind_number kind ≡ e.kind }
+        ensures { result ≡ announcer_row limits self.now e }
     {
-        if self.kind != Event::ANNOUNCE {
-            return false;
-        }
-        if !set::has(sound, self.b) {
-            return false;
-        }
-        !decided
+        kind == Kind::Announce
+            && self.is_sound(e.b)
+            && !self.board(e.b).has_decided(Round(e.id), e.value)
     }
 
-    #[tactic(auto, using(crate::proofs::Rules::rules_event_event_ballots_row), unfolding(crate::specs::Table::ballots_row))]
-    fn ballots_row(self, n: u8, a: Board) -> bool
-        ensures { (c : Bench) → c.n ≡ n → board_at limits c self.a ≡ a → result ≡ ballots_row limits c self }
+    #[tactic(auto, using(crate::proofs::Rules::rules_tests), unfolding(crate::specs::Table::ballots_row, crate::specs::Events::kind_number))]
+    fn ballots_row(&self, kind: Kind, e: Event) -> bool
+        requires { kind_number kind ≡ e.kind }
+        ensures { result ≡ ballots_row limits self.now e }
     {
-        if self.kind != Event::ANNOUNCE {
-            return false;
+        kind == Kind::Announce
+            && self.board(e.a).tally(self.n, Round(e.id), e.value) < bus::quorum(self.n)
+    }
+
+    // What a turn of board k comes to, unless it waits, or its signer refuses what it says.
+    #[tactic(auto, using(crate::proofs::Rules::rules_tests), unfolding(crate::specs::Table::must_wait))]
+    pub(crate) fn next_turn(&self, k: u8) -> Result<Turn, Refusal>
+        ensures { result ≡ (if must_wait limits self.now k then Err MustWait else Ok (turn limits self.now.n k (board_at limits self.now k))) }
+    {
+        let turn = self.board(k).turn(self.n, k);
+        if is_waiting(turn.answer) || refuses(self.signer(k), turn.signed) {
+            return Err(Refusal::MustWait);
         }
-        let round = Round(self.id);
-        a.tally(n, round, self.value) < bus::quorum(n)
+        Ok(turn)
+    }
+
+    // The rows about the event and the marks, of an event of this kind.
+    #[tactic(auto, unfolding(crate::specs::Table::first_of))]
+    fn check_event(&self, kind: Kind, e: Event) -> Result<(), Refusal>
+        requires { kind_number kind ≡ e.kind }
+        ensures { result ≡ first_of (event_rows limits self.now e) }
+    {
+        refuse_if(self.boards_row(kind, e), Refusal::NoBoard)?;
+        refuse_if(e.fields_row(kind), Refusal::WrongField)?;
+        refuse_if(self.mark_row(kind, e), Refusal::WrongMark)?;
+        refuse_if(e.pair_row(kind), Refusal::SameBoard)
     }
 
     // The rows about the boards and signers that it names, but for the last.
-    #[tactic(auto, using(crate::proofs::Rules::rules_event_event_check_state), unfolding(crate::specs::Answers::is_accepted, crate::specs::Answers::answer_number))]
-    fn check_state(self, a: Board, own: Signer, rest: Rest) -> Answer
-        ensures { (c : Bench) → Has limits c self a own rest → boards_row c self ≡ false → first_of (state_rows limits c self) ≡ then_last result (turn_row limits c self) }
+    #[tactic(auto, unfolding(crate::specs::Table::first_of))]
+    fn check_state(&self, kind: Kind, e: Event) -> Result<(), Refusal>
+        requires { kind_number kind ≡ e.kind }
+        ensures { result ≡ first_of (state_rows limits self.now e) }
     {
-        if self.start_row(a) {
-            return Answer::WrongStart;
-        }
-        if self.end_row(a) {
-            return Answer::AtEnd;
-        }
-        if self.signed_row(rest.signed) {
-            return Answer::NotSigned;
-        }
-        if self.last_row(own) {
-            return Answer::NotAbove;
-        }
-        if self.delivered_row(a) {
-            return Answer::AlreadyDelivered;
-        }
-        if self.announcer_row(rest.sound, rest.decided) {
-            return Answer::NotDecided;
-        }
-        if self.ballots_row(rest.n, a) {
-            return Answer::FewBallots;
-        }
-        Answer::Accepted
+        refuse_if(self.start_row(kind, e), Refusal::WrongStart)?;
+        refuse_if(self.end_row(kind, e), Refusal::AtEnd)?;
+        refuse_if(self.signed_row(kind, e), Refusal::NotSigned)?;
+        refuse_if(self.last_row(kind, e), Refusal::NotAbove)?;
+        refuse_if(self.delivered_row(kind, e), Refusal::AlreadyDelivered)?;
+        refuse_if(self.announcer_row(kind, e), Refusal::NotDecided)?;
+        refuse_if(self.ballots_row(kind, e), Refusal::FewBallots)
     }
 
-    // The first row of the table that applies on a bench with these parts, but for the last: that row is about what
-    // comes of a turn.
-    #[tactic(auto, using(crate::proofs::Rules::rules_event_event_check), unfolding(crate::specs::Table::check_of, crate::specs::Answers::is_accepted, crate::specs::Answers::answer_number))]
-    pub(crate) fn check(self, a: Board, own: Signer, rest: Rest) -> Answer
-        ensures { (c : Bench) → Has limits c self a own rest → Checks limits c self result }
+    // All rows but the last, which is about what comes of a turn; the event's kind where none of them applies.
+    #[tactic(auto, using(crate::proofs::Rules::rules_bench_bench_check_rows))]
+    pub(crate) fn check_rows(&self, e: Event) -> Result<Kind, Refusal>
+        ensures passed { IfOk result (λ kind. (kind_number kind ≡ e.kind) × (check_of limits self.now e ≡ first_of (turn_rows limits self.now e))) }
+        ensures refused { IfErr result (λ refusal. check_of limits self.now e ≡ Err refusal) }
     {
-        if self.kind_row() {
-            return Answer::NoKind;
+        let kind = Kind::try_from(e.kind)?;
+        self.check_event(kind, e)?;
+        self.check_state(kind, e)?;
+        Ok(kind)
+    }
+
+    // The first row of the table that applies.
+    #[tactic(auto, using(crate::proofs::Rules::rules_tests), unfolding(crate::specs::Table::turn_row, crate::specs::Table::first_of, crate::specs::Events::kind_number))]
+    pub fn check(&self, e: Event) -> Result<(), Refusal>
+        ensures { result ≡ check_of limits self.now e }
+    {
+        let kind = self.check_rows(e)?;
+        if kind == Kind::Turn {
+            self.next_turn(e.a)?;
         }
-        if self.boards_row(rest.n) {
-            return Answer::NoBoard;
-        }
-        if self.fields_row() {
-            return Answer::WrongField;
-        }
-        if self.mark_row(rest.sound) {
-            return Answer::WrongMark;
-        }
-        if self.pair_row() {
-            return Answer::SameBoard;
-        }
-        self.check_state(a, own, rest)
+        Ok(())
     }
 }

@@ -3,8 +3,11 @@
 use Prim.Native.Nat.{ℕ, ◌/◌, ◌≤◌}
 use native.Mathlib.Omega.{arith}
 use mathlib.Core.Path.{◌≡◌, refl, sym, ap, subst, ◌∙◌}
+use mathlib.Core.Bool.{true, false, true≢false}
 use mathlib.Core.List.{List, []}
 use lib.ListN.{length}
+use Rattle.std.specs.Prelude.{Result, Ok, Err}
+use Rattle.std.specs.Result.{is_ok}
 use Rattle.delivery.specs.Limits.{limits}
 use Rattle.bench.specs.Events.{event_bytes}
 use Rattle.bench.specs.Setups.{fresh_answer, fresh_bench, fresh_of}
@@ -15,10 +18,8 @@ use Rattle.bench.specs.Demands.{played_history}
 use Rattle.bench.specs.declared.bench.Bench.{Bench}
 use Rattle.bench.specs.declared.event.Event.{Event}
 use Rattle.bench.specs.declared.fresh.Fresh.{Fresh}
-use Rattle.bench.specs.declared.answer.FreshAnswer.{FreshAnswer}
-use Rattle.bench.specs.declared.play.Ending.{Ending}
-use Rattle.bench.specs.declared.play.Ending.TheVariants.{Played, Ragged, Short}
-use Rattle.bench.specs.declared.play.Played.{Played as PlayedList}
+use Rattle.bench.specs.declared.play.Unplayed.{Unplayed}
+use Rattle.bench.specs.declared.play.Played.{Played}
 use Rattle.bench.proofs.RunLaws.{length-answers, length-written, played-fits, history-written}
 use Rattle.bench.proofs.Demands.{history_from, agreed}
 use Rattle.bench.proofs.bench.Bench.play.Goals as goal
@@ -39,67 +40,51 @@ agrees-played n marks bs room =
     let same : played_history bs (written (answers_to limits c es) room) ≡ history_from n marks es = ap (λ (m : ℕ). history_of (events_played bs m) (written (answers_to limits c es) room)) (length-written (answers_to limits c es) room fits) ∙ history-written limits c es room in
     subst (λ (H : History). Agreement limits n marks H (after limits c es)) (sym same) (agreed n marks es)
 
--- the contract, from what each part of the result and the buffer are
-meets : (n : ℕ) (marks bs room out : List ℕ) (b : Bench) (a : FreshAnswer) (e : Ending)
-    → b ≡ after limits (fresh_bench limits n marks) (events_played bs (length room))
-    → a ≡ fresh_answer limits n marks
-    → e ≡ ending_of (length bs) (length room)
-    → out ≡ written (answers_to limits (fresh_bench limits n marks) (events_played bs (length room))) room
-    → (◌≡◌ {A = PlayedList} (record { bench = b; answer = a; ending = e }) (played_of limits n marks bs (length room)))
-    × (out ≡ answers_after limits n marks bs room)
-    × Agreement limits n marks (played_history bs out) b
-unfolding played_of answers_after
-meets n marks bs room out b a e p q s w = (rw (p, q, s), w, rw (w, p) (agrees-played n marks bs room))
+-- the contract, from the fresh bench, how the list went, and what was played
+module _ (n : ℕ) (marks bs room : List ℕ) (f : Fresh) (x : Result (Unit {0}) Unplayed)
+    (made : f ≡ fresh_of limits n marks) (went : x ≡ ending_of (length bs) (length room)) where
+  meets : (es : List Event) (b : Bench) (out : List ℕ) → played_by x bs ≡ es → b ≡ after limits f.bench es
+      → out ≡ written (answers_to limits f.bench es) room
+      → (◌≡◌ {A = Played} (record { bench = b; answer = f.answer; ending = x }) (played_of limits n marks bs (length room)))
+      × (out ≡ answers_after limits n marks bs room)
+      × Agreement limits n marks (played_history bs out) b
+  unfolding fresh_of played_of answers_after
+  meets es b out p q w =
+      let same : es ≡ events_played bs (length room) = sym p ∙ ap (λ (y : Result (Unit {0}) Unplayed). played_by y bs) went in
+      rw (w, q, same, made, went) (refl, refl, agrees-played n marks bs room)
 
--- of a list that was not `Played` nothing is played
-rest : (x : Ending) (bs : List ℕ) → (x ≡ Played → ⊥) → played_by x bs ≡ []
-unfolding played_by
-rest Played bs h = absurd (h refl)
-rest Ragged bs h = refl
-rest Short bs h = refl
+  -- of a list that can be played every event is, and of any other none
+  some : is_ok x ≡ true → played_by x bs ≡ events_in (length bs / event_bytes) bs
+  unfolding played_by
+  some = go x
+    where
+      go : (y : Result (Unit {0}) Unplayed) → is_ok y ≡ true → played_by y bs ≡ events_in (length bs / event_bytes) bs
+      go (Ok u) h = refl
+      go (Err r) h = absurd (true≢false (sym h))
 
-pub returns-in-Played : goal.returns-in-Played
-unfolding fresh_of played_by
-returns-in-Played c =
+  none : is_ok x ≡ false → played_by x bs ≡ []
+  unfolding played_by
+  none = go x
+    where
+      go : (y : Result (Unit {0}) Unplayed) → is_ok y ≡ false → played_by y bs ≡ []
+      go (Ok u) h = absurd (true≢false h)
+      go (Err r) h = refl
+
+pub returns-then-is_ok : goal.returns-then-is_ok
+returns-then-is_ok c =
     let a = c.args in
-    let bs = a.events.now in
-    let fresh : c.fresh-fresh.result.bench ≡ fresh_bench limits a.n a.marks = ap (λ (x : Fresh). x.bench) c.fresh-fresh.ensures in
-    let events : events_played bs (length a.answers.now) ≡ events_in (length bs / event_bytes) bs = ap (λ (x : Ending). played_by x bs) (sym c.ending_of-ending.ensures ∙ c.in-Played.is) in
-    meets
-    a.n
-    a.marks
-    bs
-    a.answers.now
-    _
-    _
-    _
-    _
-    (c.run-bench.ensures.0
-    ∙ ap (λ (b : Bench). after limits b (events_in (length bs / event_bytes) bs)) fresh
-    ∙ ap (λ (es : List Event). after limits (fresh_bench limits a.n a.marks) es) (sym events))
-    (ap (λ (x : Fresh). x.answer) c.fresh-fresh.ensures)
-    c.ending_of-ending.ensures
-    (c.run-bench.ensures.1
-    ∙ ap (λ (b : Bench). written (answers_to limits b (events_in (length bs / event_bytes) bs)) a.answers.now) fresh
-    ∙ ap (λ (es : List Event). written (answers_to limits (fresh_bench limits a.n a.marks) es) a.answers.now) (sym events))
+    let made = c.fresh-fresh.ensures in
+    let went = c.ending_of-ending.ensures in
+    let p = some a.n a.marks a.events.now a.answers.now _ _ made went (sym c.is_ok.ensures.value ∙ c.if-is_ok.true) in
+    let m = meets a.n a.marks a.events.now a.answers.now _ _ made went _ _ _ p c.run.ensures.bench c.run.ensures.answers in
+    record { played = m.0; answers = m.1; agreement = m.2 }
 
-pub returns-in_default : goal.returns-in_default
-unfolding fresh_of after answers_to written
-returns-in_default c =
+pub returns-else-is_ok : goal.returns-else-is_ok
+unfolding after answers_to written
+returns-else-is_ok c =
     let a = c.args in
-    let bs = a.events.now in
-    let events : events_played bs (length a.answers.now) ≡ [] = ap (λ (x : Ending). played_by x bs) (sym c.ending_of-ending.ensures) ∙ rest c.ending_of-ending.result bs c.in_default.not-Played in
-    meets
-    a.n
-    a.marks
-    bs
-    a.answers.now
-    _
-    _
-    _
-    _
-    (ap (λ (x : Fresh). x.bench) c.fresh-fresh.ensures
-    ∙ ap (λ (es : List Event). after limits (fresh_bench limits a.n a.marks) es) (sym events))
-    (ap (λ (x : Fresh). x.answer) c.fresh-fresh.ensures)
-    c.ending_of-ending.ensures
-    (ap (λ (es : List Event). written (answers_to limits (fresh_bench limits a.n a.marks) es) a.answers.now) (sym events))
+    let made = c.fresh-fresh.ensures in
+    let went = c.ending_of-ending.ensures in
+    let p = none a.n a.marks a.events.now a.answers.now _ _ made went (sym c.is_ok.ensures.value ∙ c.if-is_ok.false) in
+    let m = meets a.n a.marks a.events.now a.answers.now _ _ made went _ _ _ p refl refl in
+    record { played = m.0; answers = m.1; agreement = m.2 }
