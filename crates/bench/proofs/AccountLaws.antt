@@ -30,13 +30,14 @@ use Rattle.vote.specs.declared.board.Status.{Status}
 use Rattle.vote.specs.declared.board.Status.TheVariants.{Voting, Decided}
 use Rattle.vote.specs.declared.position.Position.{Position}
 use Rattle.vote.specs.declared.rule.Move.{Move}
-use Rattle.vote.specs.declared.statement.Said.TheVariants.{Nothing, One}
+use Rattle.std.specs.Prelude.{Option, None, Some}
 use Rattle.vote.specs.declared.statement.Statement.{Statement}
 use Rattle.vote.specs.declared.turn.Turn.{Turn}
 use Rattle.vote.proofs.BoardLaws.{Convinced, reads-convinced, announce-decides, propose-starts, propose-position, hears-delivers, deliver-hears, suspect-adds, trust-drops}
 use Rattle.vote.proofs.LifeLaws.{called-proposal, called-turn, called-delivery, called-suspicion, called-trust, called-announcement}
 use Rattle.vote.proofs.SigningLaws.{Signs, Speech, silent, speaks, turn-speech}
-use Rattle.vote.proofs.TurnLaws.{nothing-one, one-statement, turn-voting}
+use Rattle.std.proofs.lemmas.Option.{none-some, same_Some}
+use Rattle.vote.proofs.TurnLaws.{turn-voting}
 use Rattle.bench.specs.Events.{proposing, turning, delivering, announcing, suspecting, trusting, signing}
 use Rattle.bench.specs.Benches.{is_sound, board_at, signer_at, heard_by, signed_by}
 use Rattle.bench.specs.Setups.{Setup}
@@ -405,11 +406,11 @@ module _ (L : Limits) (S : Setup) (g : Ground L S) (c : Bench) (f : Fit L S c) (
     moves-then = ap (λ (m : ℕ). move_of L m a (t a)) (sym f.same-n)
 
     signs-here : (j i v : ℕ) → TurnSigns L S (t j) e j i v
-        → (turn L c.n a b).signed ≡ One (record { speaker = j; id = record { 0 = i }; value = v })
+        → (turn L c.n a b).signed ≡ Some (record { speaker = j; id = record { 0 = i }; value = v })
     signs-here j i v p =
         sym says_then
         ∙ subst⁻¹
-        (λ (m : ℕ). saying L S.n m (t m) ≡ One (record { speaker = j; id = record { 0 = i }; value = v }))
+        (λ (m : ℕ). saying L S.n m (t m) ≡ Some (record { speaker = j; id = record { 0 = i }; value = v }))
         p.board
         p.says
 
@@ -452,7 +453,7 @@ module _ (L : Limits) (S : Setup) (g : Ground L S) (c : Bench) (f : Fit L S c) (
         )
 
     module _ (c' : Bench) (i : c' ≡ after_turn L c a) where
-      silent-account : (turn L c.n a b).signed ≡ Nothing → (turn L c.n a b).board.delivered ≡ b.delivered → Account L S c e c'
+      silent-account : (turn L c.n a b).signed ≡ None → (turn L c.n a b).board.delivered ≡ b.delivered → Account L S c e c'
       unfolding news_of board_of Signs-new Hears-new hearing_said
       silent-account n d =
           record {
@@ -476,10 +477,10 @@ module _ (L : Limits) (S : Setup) (g : Ground L S) (c : Bench) (f : Fit L S c) (
           nothing_said : (k' i' v' : ℕ) → SignsNow L S t e k' i' v' → ⊥
           nothing_said k' i' v' =
               ⊎_elim
-              (λ (p : Sound L S k' × TurnSigns L S (t k') e k' i' v'). nothing-one _ (sym n ∙ signs-here k' i' v' p.1))
+              (λ (p : Sound L S k' × TurnSigns L S (t k') e k' i' v'). none-some _ (sym n ∙ signs-here k' i' v' p.1))
               (λ (p : Faulty L S k' × Asks e k' i' v'). clash e turning signing k refl p.1.kind)
 
-      spoken-account : (x : Statement) → Signs L c.n a b x → (turn L c.n a b).signed ≡ One x
+      spoken-account : (x : Statement) → Signs L c.n a b x → (turn L c.n a b).signed ≡ Some x
           → grants L.identifiers (signer_at L c a) x.id.0 ≡ true
           → (turn L c.n a b).board.delivered ≡ hears L b.delivered x → Account L S c e c'
       unfolding news_of board_of Signs-new Hears-new hearing_said
@@ -529,7 +530,7 @@ module _ (L : Limits) (S : Setup) (g : Ground L S) (c : Bench) (f : Fit L S c) (
           said-out k' i' v' =
               ⊎_elim
               (λ (p : Sound L S k' × TurnSigns L S (t k') e k' i' v').
-              let h = one-statement x _ (sym n ∙ signs-here k' i' v' p.1) in (
+              let h = same_Some x _ (sym n ∙ signs-here k' i' v' p.1) in (
                 sym p.1.board,
                 sym (ap (λ (m : Statement). m.id.0) h),
                 sym (ap (λ (m : Statement). m.value) h),
@@ -547,9 +548,9 @@ module _ (L : Limits) (S : Setup) (g : Ground L S) (c : Bench) (f : Fit L S c) (
                       ap (λ (m : ℕ). saying L S.n m (t m)) p.0
                       ∙ says_then
                       ∙ n
-                      ∙ ap (λ (m : ℕ). One (record { speaker = m; id = x.id; value = x.value })) (y ∙ sym p.0)
-                      ∙ ap (λ (m : ℕ). One (record { speaker = k'; id = record { 0 = m }; value = x.value })) (sym p.1)
-                      ∙ ap (λ (m : ℕ). One (record { speaker = k'; id = record { 0 = i' }; value = m })) (sym p.2);
+                      ∙ ap (λ (m : ℕ). Some (record { speaker = m; id = x.id; value = x.value })) (y ∙ sym p.0)
+                      ∙ ap (λ (m : ℕ). Some (record { speaker = k'; id = record { 0 = m }; value = x.value })) (sym p.1)
+                      ∙ ap (λ (m : ℕ). Some (record { speaker = k'; id = record { 0 = i' }; value = m })) (sym p.2);
                 },
               )
 

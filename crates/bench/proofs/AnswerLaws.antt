@@ -10,8 +10,9 @@ use Rattle.signer.proofs.ConditionalLaws.{if-true, if-false}
 use Rattle.delivery.specs.Limits.{Limits}
 use Rattle.delivery.proofs.TestLaws.{decided}
 use Rattle.vote.specs.Turns.{turn_number}
-use Rattle.vote.proofs.TurnLaws.{number-within, number-some, idle-not, ended-not, waiting-not}
-use Rattle.vote.specs.declared.turn.Answer.TheVariants.{NotStarted, Ended, Waiting}
+use Rattle.vote.proofs.TurnLaws.{refusal-within as turn-within}
+use Rattle.vote.specs.declared.turn.Refusal.{Refusal as TurnRefusal}
+use Rattle.vote.specs.declared.turn.Refusal.TheVariants.{NotStarted, Ended, Waiting}
 use Rattle.bench.specs.Answers.{fault_number, fresh_number, refusal_number, answer_number, is_accepted}
 use Rattle.bench.specs.Table.{check_of}
 use Rattle.bench.specs.Effects.{effect_of, step_of}
@@ -37,18 +38,9 @@ use Rattle.bench.specs.declared.answer.Refusal.TheVariants.{
   MustWait,
 }
 
--- what a board answers to a turn that it does not take has another number than 0
-start-refused : refusal_number WrongStart ≡ 0 → ⊥
-unfolding refusal_number
-start-refused e = idle-not (number-some NotStarted e)
-
-end_refused : refusal_number AtEnd ≡ 0 → ⊥
-unfolding refusal_number
-end_refused e = ended-not (number-some Ended e)
-
-wait-refused : refusal_number MustWait ≡ 0 → ⊥
-unfolding refusal_number
-wait-refused e = waiting-not (number-some Waiting e)
+-- what a board answers to a turn that it does not take has the number of a row
+turn-some : (r : TurnRefusal) → turn_number r ≡ 0 → ⊥
+turn-some r e = omega (arith, e, turn-within r)
 
 -- an event is accepted where no row applies, and where one does it is refused
 pub accepted-so : (u : Unit {0}) → is_accepted (Ok u) ≡ true
@@ -62,14 +54,14 @@ refusal-some NoBoard e = omega (arith, e)
 refusal-some WrongField e = omega (arith, e)
 refusal-some WrongMark e = omega (arith, e)
 refusal-some SameBoard e = omega (arith, e)
-refusal-some WrongStart e = start-refused e
-refusal-some AtEnd e = end_refused e
+refusal-some WrongStart e = turn-some NotStarted e
+refusal-some AtEnd e = turn-some Ended e
 refusal-some NotSigned e = omega (arith, e)
 refusal-some NotAbove e = omega (arith, e)
 refusal-some AlreadyDelivered e = omega (arith, e)
 refusal-some NotDecided e = omega (arith, e)
 refusal-some FewBallots e = omega (arith, e)
-refusal-some MustWait e = wait-refused e
+refusal-some MustWait e = turn-some Waiting e
 
 pub refused-so : (r : Refusal) → is_accepted (Err r) ≡ false
 unfolding is_accepted answer_number
@@ -114,14 +106,14 @@ refusal-within NoBoard = inr (omega arith, omega arith)
 refusal-within WrongField = inr (omega arith, omega arith)
 refusal-within WrongMark = inr (omega arith, omega arith)
 refusal-within SameBoard = inr (omega arith, omega arith)
-refusal-within WrongStart = number-within NotStarted
-refusal-within AtEnd = number-within Ended
+refusal-within WrongStart = inr (turn-within NotStarted)
+refusal-within AtEnd = inr (turn-within Ended)
 refusal-within NotSigned = inr (omega arith, omega arith)
 refusal-within NotAbove = inr (omega arith, omega arith)
 refusal-within AlreadyDelivered = inr (omega arith, omega arith)
 refusal-within NotDecided = inr (omega arith, omega arith)
 refusal-within FewBallots = inr (omega arith, omega arith)
-refusal-within MustWait = number-within Waiting
+refusal-within MustWait = inr (turn-within Waiting)
 
 pub answer-within : (a : Result (Unit {0}) Refusal) → (answer_number a ≡ 0) ⊎ IsEventRow (answer_number a)
 unfolding answer_number

@@ -14,7 +14,7 @@ use Rattle.vote.specs.Turns.{turn}
 use Rattle.vote.specs.Calls.{Call, own_turn, delivery, called}
 use Rattle.vote.specs.declared.board.Board.{Board}
 use Rattle.vote.specs.declared.statement.Statement.{Statement}
-use Rattle.vote.specs.declared.statement.Said.TheVariants.{Nothing, One}
+use Rattle.std.specs.Prelude.{Option, None, Some}
 use Rattle.vote.proofs.SigningLaws.{Signs}
 use Rattle.vote.proofs.LifeLaws.{called-turn}
 use Rattle.bench.specs.Benches.{is_sound, board_at, signer_at, heard_by, signed_by, holders}
@@ -42,7 +42,7 @@ module _ (L : Limits) (c : Bench) (a : ℕ) where
   pub data Change (c' : Bench) : Type 0 where
     keeps-quiet : (x : Call) → is_sound c a ≡ true → is_within c.n a ≡ true → (called L c.n a me x).delivered ≡ me.delivered
         → c' ≡ with_board_at c a (called L c.n a me x) → Change c'
-    says : (s : Statement) → is_sound c a ≡ true → is_within c.n a ≡ true → (turn L c.n a me).signed ≡ One s
+    says : (s : Statement) → is_sound c a ≡ true → is_within c.n a ≡ true → (turn L c.n a me).signed ≡ Some s
         → Signs L c.n a me s → grants L.identifiers (signer_at L c a) s.id.0 ≡ true
         → (called L c.n a me own_turn).delivered ≡ hears L me.delivered s
         → c' ≡ with_board_at (spoken s) a (called L c.n a me own_turn) → Change c'
@@ -54,13 +54,13 @@ module _ (L : Limits) (c : Bench) (a : ℕ) where
         → c' ≡ with_signature L c a i v → Change c'
 
   -- a turn, by what is said in it
-  pub silent-turn : (turn L c.n a me).signed ≡ Nothing → after_turn L c a ≡ with_board_at c a (called L c.n a me own_turn)
+  pub silent-turn : (turn L c.n a me).signed ≡ None → after_turn L c a ≡ with_board_at c a (called L c.n a me own_turn)
   unfolding after_turn after_saying
   silent-turn e =
       ap (λ x. with_board_at (after_saying L c a x) a (turn L c.n a me).board) e
       ∙ ap (with_board_at c a) (sym (called-turn L c.n a me))
 
-  pub spoken-turn : (s : Statement) → (turn L c.n a me).signed ≡ One s
+  pub spoken-turn : (s : Statement) → (turn L c.n a me).signed ≡ Some s
       → after_turn L c a ≡ with_board_at (spoken s) a (called L c.n a me own_turn)
   unfolding after_turn after_saying
   spoken-turn s e =

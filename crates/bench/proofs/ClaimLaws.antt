@@ -21,7 +21,7 @@ use Rattle.delivery.proofs.GrowthLaws.{won-grows}
 use Rattle.delivery.proofs.AgreementLaws.{Won, won-opened, won-one}
 use Rattle.vote.specs.Turns.{turn}
 use Rattle.vote.specs.declared.statement.Statement.{Statement}
-use Rattle.vote.specs.declared.statement.Said.TheVariants.{One}
+use Rattle.std.specs.Prelude.{Some}
 use Rattle.vote.specs.Boards.{decision_of}
 use Rattle.vote.proofs.ProperLaws.{voting-round}
 use Rattle.vote.proofs.SigningLaws.{Signs, signs-opening, signs-ballot, due, signs-due, turn-signs}
@@ -226,7 +226,7 @@ module _ (L : Limits) (S : Setup) (g : Ground L S) where
         }
 
     -- what a sound board says in its turn its signer signs
-    pub sure-signs : (k : ℕ) → is_sound c k ≡ true → (s : Statement) → (turn L c.n k (board_at L c k)).signed ≡ One s
+    pub sure-signs : (k : ℕ) → is_sound c k ≡ true → (s : Statement) → (turn L c.n k (board_at L c k)).signed ≡ Some s
         → grants L.identifiers (signer_at L c k) s.id.0 ≡ true
     sure-signs k t s e =
         let w = turn-signs L c.n k (board_at L c k) s e in

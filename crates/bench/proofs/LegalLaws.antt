@@ -22,7 +22,7 @@ use Rattle.vote.specs.Turns.{turn}
 use Rattle.vote.specs.Announcements.{announce}
 use Rattle.vote.specs.declared.board.Board.{Board}
 use Rattle.vote.specs.declared.board.Status.TheVariants.{Voting}
-use Rattle.vote.specs.declared.statement.Said.TheVariants.{One}
+use Rattle.std.specs.Prelude.{Some}
 use Rattle.vote.specs.declared.statement.Statement.{Statement}
 use Rattle.vote.proofs.StatusLaws.{going-voting}
 use Rattle.vote.proofs.BallotLaws.{tally-won}
@@ -138,7 +138,7 @@ module _ (L : Limits) (c : Bench) (e : Event) where
     legal-proposal : e.kind ≡ proposing → Seated → is_started me.status ≡ false → (e.value ≡ 0 → ⊥)
         → c' ≡ with_board_at c e.a (propose me e.value) → Legal c'
     legal-turn : e.kind ≡ turning → Seated → me.status ≡ Voting
-        → ((s : Statement) → (turn L c.n e.a me).signed ≡ One s → grants L.identifiers (signer_at L c e.a) s.id.0 ≡ true)
+        → ((s : Statement) → (turn L c.n e.a me).signed ≡ Some s → grants L.identifiers (signer_at L c e.a) s.id.0 ≡ true)
         → c' ≡ after_turn L c e.a → Legal c'
     legal-delivery : e.kind ≡ delivering → Seated → is_within c.n e.b ≡ true → is_identifier L.identifiers e.id ≡ true
         → signed_by L c e.b e.id ≡ entry_of e.value → heard_by L c e.a e.b e.id ≡ 0
@@ -223,7 +223,7 @@ module _ (L : Limits) (c : Bench) (e : Event) where
     backed k = ltb-false _ _ (and-under _ _ k p.ballots)
 
     -- a signer signs what is said in an accepted turn, and what an accepted event asks of it
-    signable : is turning ≡ true → (s : Statement) → (turn L c.n e.a me).signed ≡ One s
+    signable : is turning ≡ true → (s : Statement) → (turn L c.n e.a me).signed ≡ Some s
         → grants L.identifiers (signer_at L c e.a) s.id.0 ≡ true
     unfolding turn_row must_wait refuses
     signable k s x =

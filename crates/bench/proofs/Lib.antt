@@ -2,6 +2,7 @@
 -- histories, of one accepted event, of what is read off the bench after it, and of every list of events. After it, what the
 -- walks of calls on a lent bench go by.
 pub mod TableLaws
+pub mod TurnLaws
 pub mod EffectLaws
 pub mod BenchLaws
 pub mod AnswerLaws

@@ -18,7 +18,7 @@ use Rattle.vote.specs.Boards.{is_started}
 use Rattle.vote.specs.Turns.{position_after, turn}
 use Rattle.vote.specs.declared.board.Board.{Board}
 use Rattle.vote.specs.declared.board.Status.TheVariants.{Voting}
-use Rattle.vote.specs.declared.statement.Said.TheVariants.{One}
+use Rattle.std.specs.Prelude.{Some}
 use Rattle.vote.specs.declared.statement.Statement.{Statement}
 use Rattle.vote.proofs.StatusLaws.{started-voting}
 use Rattle.vote.proofs.BoardLaws.{starting-estimate}
@@ -206,7 +206,7 @@ module _ (L : Limits) (S : Setup) (g : Ground L S) (H : History) (c : Bench) (f 
 
     -- an opening that a sound board signs in its turn has its estimate
     spoken-origin : b.status ≡ Voting → is_sound c a ≡ true → (r v : ℕ) → is_round L r ≡ true
-        → (turn L c.n a b).signed ≡ One (record { speaker = a; id = record { 0 = identifier_of L Opening r }; value = v })
+        → (turn L c.n a b).signed ≡ Some (record { speaker = a; id = record { 0 = identifier_of L Opening r }; value = v })
         → Origin L S H' v
     spoken-origin v₀ s r v i n = go (turn-signs L c.n a b _ n)
       where
@@ -248,7 +248,7 @@ module _ (L : Limits) (S : Setup) (g : Ground L S) (H : History) (c : Bench) (f 
             ∙ subst⁻¹
             (λ (m : ℕ).
             saying L S.n m (standing_of L (board_at L c m))
-            ≡ One (record { speaker = m; id = record { 0 = identifier_of L Opening r }; value = v }))
+            ≡ Some (record { speaker = m; id = record { 0 = identifier_of L Opening r }; value = v }))
             x.board
             x.says)
         go (legal-proposal k₀ q u z j) x = clash e proposing turning k₀ refl x.kind

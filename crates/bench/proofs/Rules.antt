@@ -4,6 +4,7 @@ use Rattle.bench.proofs.Demands.{agreed, history_from}
 use Rattle.bench.proofs.RunLaws.{after_next, after_none, answers-none, answers_next, history-written, length-answers, length-events, length-written, played-fits, played-room, sets-written}
 use Rattle.bench.proofs.SetupLaws.{limits-ground, marks-none, marks-next, marks-fail}
 use Rattle.bench.proofs.TableLaws.{check-event, check-kind, check-state, check-turn, kind-known, not_same}
+use Rattle.bench.proofs.TurnLaws.{saying-board, turn-made, wait-neither, wait-refuses, wait-waits}
 use Rattle.delivery.proofs.CountLaws.{every-reads, reads-every}
 use Rattle.delivery.proofs.SetLaws.{set-leave, set-none, set-take}
 use Rattle.delivery.proofs.TestLaws.{and-no-left, and-no-right, and-yes-left, neg-in, neg-no, or-no-left, or-no-right, or_left, or_no, or_right}
@@ -14,13 +15,15 @@ use Rattle.signer.proofs.FromOneLaws.{nth_after, nth-any, nth-none, set_nth-inde
 -- tests joined
 pub ruleset rules_tests = (and-yes-left, and-no-left, and-no-right, or_left, or_right, or_no, or-no-left, or-no-right, neg-no, neg-in, not_same)
 
-pub ruleset rules_bench_bench_board = (nth-none, within-high, within_low, within-out, nth-any)
-
 pub ruleset rules_bench_bench_fresh = (if-true, if-false, within-high)
 
 pub ruleset rules_bench_bench_holders = (set-none)
 
 pub ruleset rules_bench_bench_put = (set_nth-none, set_nth-index, nth-any, within-high, within_low, within-out)
+
+pub ruleset rules_bench_bench_next_move = (if-true, if-false, wait-waits, wait-refuses, wait-neither)
+
+pub ruleset rules_bench_bench_turn = (saying-board, turn-made)
 
 pub ruleset rules_bench_bench_play = (length-answers, length-written, played-fits, played-room, history-written, limits-ground, history_from, agreed)
 

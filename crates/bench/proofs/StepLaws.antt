@@ -21,7 +21,7 @@ use Rattle.vote.specs.Turns.{turn}
 use Rattle.vote.specs.Calls.{Call, own_turn, delivery, called}
 use Rattle.vote.specs.declared.board.Board.{Board}
 use Rattle.vote.specs.declared.statement.Statement.{Statement}
-use Rattle.vote.specs.declared.statement.Said.TheVariants.{One}
+use Rattle.std.specs.Prelude.{Some}
 use Rattle.vote.proofs.ProperLaws.{Proper, voting-round, called-proper}
 use Rattle.vote.proofs.SigningLaws.{due, signed-past}
 use Rattle.vote.proofs.LifeLaws.{Grounded, called-turn, called-grounded, called-due}
@@ -214,7 +214,7 @@ module _ (L : Limits) (S : Setup) (g : Ground L S) (c : Bench) (f : Fit L S c) (
       omega (arith, l, f.ahead a t)
 
   -- after a statement its identifier is the last, and the board's next is higher
-  said-ahead : (x : Statement) → is_within c.n a ≡ true → (turn L c.n a (me L c a)).signed ≡ One x
+  said-ahead : (x : Statement) → is_within c.n a ≡ true → (turn L c.n a (me L c a)).signed ≡ Some x
       → grants L.identifiers (signer_at L c a) x.id.0 ≡ true
       → (signer_at L (with_signature L c a x.id.0 x.value) a).last.0 ≤ due L (called L c.n a (me L c a) own_turn) - 1
   said-ahead x w t o =

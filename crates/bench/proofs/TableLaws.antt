@@ -14,9 +14,12 @@ use Rattle.delivery.specs.Tests.{◌and◌, ◌or◌, neg}
 use Rattle.delivery.proofs.TestLaws.{and-yes-left, and-no-left, and-under, or_left, or_right, or_no, or-no-left, or-no-right, or-false-left, or-false-right, neg-no, neg-in, neg-false, fails}
 use Rattle.signer.proofs.FromOneLaws.{within_low, within-high, within_in}
 use Rattle.bench.specs.Events.{proposing, turning, delivering, announcing, suspecting, trusting, signing, kind_number, kind_of, uses_other, uses_id}
-use Rattle.bench.specs.Table.{kind_row, boards_row, first_of, event_rows, state_rows, turn_rows, table_of, check_of}
+use Rattle.bench.specs.Table.{kind_row, boards_row, start_row, end_row, first_of, event_rows, state_rows, turn_rows, table_of, check_of}
 use Rattle.bench.specs.declared.event.Kind.{Kind}
 use Rattle.bench.specs.declared.event.Kind.TheVariants.{Propose, Turn, Deliver, Announce, Suspect, Trust, Sign}
+use Rattle.bench.specs.Benches.{board_at}
+use Rattle.vote.specs.declared.board.Status.TheVariants.{Voting}
+use Rattle.vote.proofs.StatusLaws.{going-voting}
 use Rattle.bench.specs.declared.bench.Bench.{Bench}
 use Rattle.bench.specs.declared.event.Event.{Event}
 use Rattle.std.specs.Prelude.{Result, Ok, Err}
@@ -100,6 +103,25 @@ unfolding first_of
 rows-pass [] ys u h = refl
 rows-pass ((true, a) ∷ xs) ys u h = grind (arith, h)
 rows-pass ((false, a) ∷ xs) ys u h = rows-pass xs ys u h
+
+-- a board whose turn no row before the last refuses is voting
+rows-left : (row : Bool × Refusal) (rows : List (Bool × Refusal)) (u : Unit {0}) → first_of (row ∷ rows) ≡ Ok u
+    → (row.0 ≡ false) × (first_of rows ≡ Ok u)
+unfolding first_of
+rows-left (true, a) rows u h = grind (arith, h)
+rows-left (false, a) rows u h = (refl, h)
+
+pub state-voting : (L : Limits) (c : Bench) (e : Event) (u : Unit {0}) → first_of (state_rows L c e) ≡ Ok u → e.kind ≡ turning
+    → (board_at L c e.a).status ≡ Voting
+unfolding start_row end_row
+state-voting L c e u h k =
+    let start = rows-left _ _ u h in
+    let end = rows-left _ _ u start.1 in
+    let is : eqb e.kind turning ≡ true = eq-eqb e.kind turning k in
+    going-voting
+    (board_at L c e.a).status
+    (neg-false _ (and-under _ _ (or_left _ _ is) (or-false-right _ _ start.0)))
+    (and-under _ _ is (or-false-left _ _ end.0))
 
 -- a number from 1 to 7 is that of its kind, and no other has one
 pub kind-known : (n : ℕ) (k : Kind) → kind_of n ≡ Ok k → kind_number k ≡ n

@@ -1,7 +1,7 @@
 -- Document 01, "Where an event or file stops": the answers and their numbers in its table.
 use Rattle.std.specs.Prelude.{ℕ, Bool, Result, Ok, Err, eqb}
 use Rattle.vote.specs.Turns.{turn_number}
-use Rattle.vote.specs.declared.turn.Answer.TheVariants.{NotStarted, Ended, Waiting}
+use Rattle.vote.specs.declared.turn.Refusal.TheVariants.{NotStarted, Ended, Waiting}
 use Rattle.bench.specs.declared.answer.Refusal.{Refusal}
 use Rattle.bench.specs.declared.answer.Refusal.TheVariants.{
   NoKind,

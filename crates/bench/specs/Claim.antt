@@ -8,7 +8,7 @@ use Rattle.delivery.specs.Sets.{in_set}
 use Rattle.delivery.specs.Owed.{receivers}
 use Rattle.delivery.specs.declared.round.Phase.TheVariants.{Opening}
 use Rattle.vote.specs.declared.rule.Move.TheVariants.{Decides}
-use Rattle.vote.specs.declared.statement.Said.TheVariants.{One}
+use Rattle.std.specs.Prelude.{Some}
 use Rattle.bench.specs.Events.{proposing, turning, delivering, announcing, signing}
 use Rattle.bench.specs.Benches.{heard_by, signed_by}
 use Rattle.bench.specs.Setups.{Setup, setup}
@@ -66,7 +66,7 @@ module _ (L : Limits) (S : Setup) where
   pub record TurnSigns (t : Standing) (e : Event) (k i v : ℕ) : Type 0 where
     pub kind : e.kind ≡ turning
     pub board : e.a ≡ k
-    pub says : saying L S.n k t ≡ One (record { speaker = k; id = record { 0 = i }; value = v })
+    pub says : saying L S.n k t ≡ Some (record { speaker = k; id = record { 0 = i }; value = v })
 
   pub record TurnDecides (t : Standing) (e : Event) (k r v : ℕ) : Type 0 where
     pub kind : e.kind ≡ turning

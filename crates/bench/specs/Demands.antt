@@ -4,7 +4,7 @@ use Rattle.signer.specs.Signer.{grants}
 use Rattle.delivery.specs.Limits.{limits}
 use Rattle.vote.specs.Turns.{turn}
 use Rattle.vote.specs.declared.statement.Statement.{Statement}
-use Rattle.vote.specs.declared.statement.Said.TheVariants.{One}
+use Rattle.std.specs.Prelude.{Some}
 use Rattle.bench.specs.Benches.{is_sound, board_at, signer_at}
 use Rattle.bench.specs.Setups.{fresh_bench, fresh_of}
 use Rattle.bench.specs.Answers.{fresh_number, answer_number}
@@ -63,7 +63,7 @@ pub record Demand2 : Type 0 where
       → (es : List Event) (p : Playings f.bench es) → outcomes f.bench es p ≡ steps (fresh_bench limits n marks) es
   pub signs : (n : ℕ) (marks : List ℕ) (es : List Event) → let c = bench_after limits n marks es in
       (k : ℕ) → is_sound c k ≡ true
-      → (s : Statement) → (turn limits c.n k (board_at limits c k)).signed ≡ One s
+      → (s : Statement) → (turn limits c.n k (board_at limits c k)).signed ≡ Some s
       → grants limits.identifiers (signer_at limits c k) s.id.0 ≡ true
 
 -- the history of a list of events, and the bench after it, by what came of each

@@ -11,8 +11,7 @@ use Rattle.vote.specs.Turns.{turn}
 use Rattle.vote.specs.Announcements.{announce}
 use Rattle.vote.specs.declared.board.Board.{Board}
 use Rattle.vote.specs.declared.statement.Statement.{Statement}
-use Rattle.vote.specs.declared.statement.Said.{Said}
-use Rattle.vote.specs.declared.statement.Said.TheVariants.{Nothing, One}
+use Rattle.std.specs.Prelude.{Option, None, Some}
 use Rattle.bench.specs.Events.{proposing, turning, delivering, announcing, suspecting, trusting}
 use Rattle.bench.specs.Benches.{board_at, signer_at, holders}
 use Rattle.bench.specs.Answers.{is_accepted}
@@ -40,9 +39,9 @@ unfoldable pub with_owed : Bench → Owed → Bench
 with_owed c o = record { n = c.n; sound = c.sound; boards = c.boards; signers = c.signers; owed = o }
 
 -- sound board k says something in its turn: its signer signs that, and copies become owed
-unfoldable pub after_saying : Limits → Bench → ℕ → Said → Bench
-after_saying L c k Nothing = c
-after_saying L c k (One s) =
+unfoldable pub after_saying : Limits → Bench → ℕ → Option Statement → Bench
+after_saying L c k None = c
+after_saying L c k (Some s) =
     with_owed
     (with_signature L c k s.id.0 s.value)
     (after_signing L c.owed k s.id.0 c.sound (holders L c k s.id.0))

@@ -12,8 +12,8 @@ use Rattle.vote.specs.Rule.{rule}
 use Rattle.vote.specs.Turns.{position_after, said_in}
 use Rattle.vote.specs.declared.position.Position.{Position}
 use Rattle.vote.specs.declared.rule.Move.{Move}
-use Rattle.vote.specs.declared.statement.Said.{Said}
-use Rattle.vote.specs.declared.statement.Said.TheVariants.{Nothing, One}
+use Rattle.vote.specs.declared.statement.Statement.{Statement}
+use Rattle.std.specs.Prelude.{Option, None, Some}
 use Rattle.bench.specs.Events.{proposing, turning, delivering, suspecting, trusting}
 use Rattle.bench.specs.declared.event.Event.{Event}
 
@@ -43,9 +43,9 @@ outset = record { position = fresh_position; heard = λ (s i : ℕ). 0 }
 unfoldable pub hearing : Store → ℕ → ℕ → ℕ → Store
 hearing h s i v s' i' = if eqb s' s and eqb i' i then entry_of v else h s' i'
 
-unfoldable pub hearing_said : Store → Said → Store
-hearing_said h Nothing = h
-hearing_said h (One x) = hearing h x.speaker x.id.0 x.value
+unfoldable pub hearing_said : Store → Option Statement → Store
+hearing_said h None = h
+hearing_said h (Some x) = hearing h x.speaker x.id.0 x.value
 
 -- of board k among n
 module _ (L : Limits) (n k : ℕ) where
@@ -53,7 +53,7 @@ module _ (L : Limits) (n k : ℕ) where
   abbrev pub move_of : Standing → Move
   move_of t = rule L n k t.position t.heard
 
-  abbrev pub saying : Standing → Said
+  abbrev pub saying : Standing → Option Statement
   saying t = said_in L k t.position.round.0 (move_of t)
 
   -- an event for it is believed: it starts, makes the move that the rule has it make, hears a statement, or suspects or

@@ -13,10 +13,10 @@ use Rattle.delivery.specs.Rounds.{is_round}
 use Rattle.vote.specs.Ballots.{tally}
 use Rattle.vote.specs.Boards.{is_started, is_decided, is_ended, has_decided}
 use Rattle.vote.specs.Turns.{turn}
-use Rattle.vote.specs.declared.statement.Said.{Said}
-use Rattle.vote.specs.declared.statement.Said.TheVariants.{Nothing, One}
-use Rattle.vote.specs.declared.turn.Answer.{Answer as TurnAnswer}
-use Rattle.vote.specs.declared.turn.Answer.TheVariants.{Done, NotStarted, Ended, Waiting}
+use Rattle.vote.specs.declared.statement.Statement.{Statement}
+use Rattle.std.specs.Prelude.{Option, None, Some}
+use Rattle.vote.specs.declared.turn.Refusal.{Refusal as TurnRefusal}
+use Rattle.vote.specs.declared.turn.Refusal.TheVariants.{NotStarted, Ended, Waiting}
 use Rattle.bench.specs.Events.{proposing, turning, delivering, announcing, suspecting, trusting, signing, uses_other, uses_id, uses_value}
 use Rattle.bench.specs.Benches.{is_sound, board_at, signer_at, heard_by, signed_by}
 use Rattle.bench.specs.declared.bench.Bench.{Bench}
@@ -43,15 +43,15 @@ is e k = eqb e.kind k
 
 -- what a turn of board a comes to that is answered by the last row: the board waits; or, which no bench that was played
 -- from a fresh one comes to, its signer refuses what it says
-unfoldable pub is_waiting : TurnAnswer → Bool
-is_waiting Done = false
-is_waiting NotStarted = false
-is_waiting Ended = false
-is_waiting Waiting = true
+unfoldable pub is_waiting : Result (Unit {0}) TurnRefusal → Bool
+is_waiting (Ok _) = false
+is_waiting (Err NotStarted) = false
+is_waiting (Err Ended) = false
+is_waiting (Err Waiting) = true
 
-unfoldable pub refuses : Limits → Signer → Said → Bool
-refuses L s Nothing = false
-refuses L s (One x) = neg (grants L.identifiers s x.id.0)
+unfoldable pub refuses : Limits → Signer → Option Statement → Bool
+refuses L s None = false
+refuses L s (Some x) = neg (grants L.identifiers s x.id.0)
 
 unfoldable pub must_wait : Limits → Bench → ℕ → Bool
 must_wait L c k =

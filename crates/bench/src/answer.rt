@@ -1,7 +1,7 @@
 ghost use Rattle.std.specs.Prelude.{◌≡◌};
 ghost use Rattle.bench.specs.Answers.{fault_number, refusal_number, answer_number};
 
-use vote::Answer as TurnAnswer;
+use vote::Refusal as TurnRefusal;
 
 // Why the call for a fresh bench is refused.
 #[derive(Clone, Copy, Debug, PartialEq, Eq)]
@@ -53,14 +53,14 @@ impl Refusal {
             Refusal::WrongField => 12,
             Refusal::WrongMark => 13,
             Refusal::SameBoard => 14,
-            Refusal::WrongStart => TurnAnswer::NotStarted.number(),
-            Refusal::AtEnd => TurnAnswer::Ended.number(),
+            Refusal::WrongStart => TurnRefusal::NotStarted.number(),
+            Refusal::AtEnd => TurnRefusal::Ended.number(),
             Refusal::NotSigned => 17,
             Refusal::NotAbove => 18,
             Refusal::AlreadyDelivered => 19,
             Refusal::NotDecided => 20,
             Refusal::FewBallots => 21,
-            Refusal::MustWait => TurnAnswer::Waiting.number(),
+            Refusal::MustWait => TurnRefusal::Waiting.number(),
         }
     }
 

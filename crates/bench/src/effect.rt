@@ -1,20 +1,20 @@
-ghost use Rattle.std.specs.Prelude.{◌≡◌, Ok, Err, OnOk, OnErr};
+ghost use Rattle.std.specs.Prelude.{◌≡◌, ◌≢◌, Ok, Err, OnOk, OnErr};
 ghost use Rattle.std.specs.Prelude.{if◌then◌else◌};
 ghost use Rattle.delivery.specs.Limits.{limits};
-ghost use Rattle.vote.specs.Boards.{propose, suspect, trust};
-ghost use Rattle.vote.specs.Announcements.{announce};
-ghost use Rattle.bench.specs.Benches.{board_at};
-ghost use Rattle.bench.specs.Events.{kind_number};
+ghost use Rattle.vote.specs.Turns.{take};
+ghost use Rattle.bench.specs.Benches.{board_at, IsVoting};
+ghost use Rattle.bench.specs.Events.{turning, kind_number};
+ghost use Rattle.bench.specs.declared.event.Kind.TheVariants.{Turn, Deliver, Sign};
 ghost use Rattle.bench.specs.declared.answer.Refusal.TheVariants.{MustWait};
 ghost use Rattle.bench.specs.Table.{must_wait, turn_rows, first_of};
-ghost use Rattle.bench.specs.Effects.{with_board_at, with_signature, after_saying, after_turn, after_hearing, effect_of, step_of};
+ghost use Rattle.bench.specs.Effects.{with_board_at, with_signature, after_saying, after_turn, brought, after_hearing, effect_of, step_of};
 
 use crate::answer::Refusal;
 use crate::bench::Bench;
 use crate::event::{Event, Kind};
 use delivery::{Delivered, Round};
 use signer::Identifier;
-use vote::{Board, Said, Statement};
+use vote::{Move, Statement};
 
 // What comes of an event: the bench afterwards, and the answer.
 #[derive(Clone, Copy)]
@@ -23,88 +23,113 @@ pub struct Outcome {
     pub answer: Result<(), Refusal>,
 }
 
-impl Bench {
-    // With another board k; unchanged where the number is no board's.
-    #[tactic(auto, using(crate::proofs::Rules::rules_bench_bench_put), unfolding(crate::specs::Effects::with_board_at))]
-    fn put_board(&mut self, k: u8, board: Board)
-        ensures { self.new ≡ with_board_at self.old k board }
+impl Event {
+    // The statement that a delivery brings.
+    fn brought(self) -> Statement
+        ensures { result ≡ brought self }
     {
-        if Delivered::is_board(k) {
-            self.boards[k as usize - 1] = board;
+        Statement {
+            speaker: self.b,
+            id: Identifier(self.id),
+            value: self.value,
         }
     }
+}
 
-    // Board k's signer is asked to sign a value under an identifier.
+impl Bench {
+    // Board k's signer is asked to sign a value under an identifier; nobody is where the number is no board's.
     #[tactic(auto, using(crate::proofs::Rules::rules_bench_bench_put), unfolding(crate::specs::Effects::with_signature, crate::specs::Benches::signer_at))]
     fn sign(&mut self, k: u8, id: Identifier, value: u16)
         ensures { self.new ≡ with_signature limits self.old k id.0 value }
     {
         if Delivered::is_board(k) {
-            self.signers[k as usize - 1] = self.signers[k as usize - 1].sign(id, value).signer;
+            self.signers[k as usize - 1].sign(id, value);
         }
     }
 
     // Board k says this in its turn: its signer signs it, and copies become owed.
     #[tactic(auto, unfolding(crate::specs::Benches::signer_at, crate::specs::Effects::after_saying, crate::specs::Effects::with_owed, crate::specs::Effects::with_signature))]
-    fn say(&mut self, k: u8, said: Said)
+    fn say(&mut self, k: u8, said: Option<Statement>)
         ensures { self.new ≡ after_saying limits self.old k said }
     {
-        if let Said::One(s) = said {
+        if let Some(s) = said {
             let have = self.holders(k, s.id);
-            self.owed = self.owed.after_signing(k, s.id, self.sound, have);
+            self.owed.record_signing(k, s.id, self.sound, have);
             self.sign(k, s.id, s.value);
         }
     }
 
-    // Board k takes its turn; unchanged where it waits, or its signer refuses what it says.
-    #[tactic(auto, unfolding(crate::specs::Effects::after_turn))]
+    // Board k, which is voting, makes this move.
+    #[tactic(auto, using(crate::proofs::Rules::rules_bench_bench_put), unfolding(crate::specs::Benches::board_at, crate::specs::Effects::with_board_at))]
+    fn make(&mut self, k: u8, step: Move)
+        ensures { self.new ≡ with_board_at self.old k (take limits k (board_at limits self.old k) step).board }
+    {
+        if Delivered::is_board(k) {
+            self.boards[k as usize - 1].make(k, step);
+        }
+    }
+
+    // Board k, which is voting, takes its turn; nothing changes where it waits, or its signer refuses what it says.
+    #[tactic(auto, using(crate::proofs::Rules::rules_bench_bench_turn))]
     fn turn(&mut self, k: u8) -> Result<(), Refusal>
+        requires { IsVoting limits self.old k }
         ensures answer { result ≡ (if must_wait limits self.old k then Err MustWait else Ok tt) }
         ensures ok { OnOk result (self.new ≡ after_turn limits self.old k) }
         ensures err { OnErr result (self.new ≡ self.old) }
     {
-        let turn = self.next_turn(k)?;
-        self.say(k, turn.signed);
-        self.put_board(k, turn.board);
+        let (step, said) = self.next_move(k)?;
+        self.say(k, said);
+        self.make(k, step);
         Ok(())
     }
 
     // Board k delivers a statement, and echoes it.
-    #[tactic(auto, unfolding(crate::specs::Benches::board_at, crate::specs::Effects::after_hearing, crate::specs::Effects::with_owed, crate::specs::Effects::with_board_at))]
+    #[tactic(auto, using(crate::proofs::Rules::rules_bench_bench_put), unfolding(crate::specs::Benches::board_at, crate::specs::Effects::after_hearing, crate::specs::Effects::with_owed, crate::specs::Effects::with_board_at))]
     fn hear(&mut self, k: u8, s: Statement)
         ensures { self.new ≡ after_hearing limits self.old k s }
     {
         let have = self.holders(s.speaker, s.id);
-        self.owed = self.owed.after_delivery(k, s.speaker, s.id, self.sound, have);
-        self.put_board(k, self.board(k).deliver(s));
+        self.owed.record_delivery(k, s.speaker, s.id, self.sound, have);
+        if Delivered::is_board(k) {
+            self.boards[k as usize - 1].deliver(s);
+        }
+    }
+
+    // Board a starts, is told of a decision, suspects or trusts, by the event's kind.
+    #[tactic(auto, using(crate::proofs::Rules::rules_bench_bench_put), unfolding(crate::specs::Benches::board_at, crate::specs::Effects::effect_of, crate::specs::Effects::with_board_at, crate::specs::Events::kind_number))]
+    fn tell(&mut self, kind: Kind, e: Event)
+        requires known { kind_number kind ≡ e.kind }
+        requires told { (kind ≢ Turn) × (kind ≢ Deliver) × (kind ≢ Sign) }
+        ensures { self.new ≡ effect_of limits self.old e }
+    {
+        if !Delivered::is_board(e.a) {
+            return;
+        }
+        let n = self.n;
+        let board = &mut self.boards[e.a as usize - 1];
+        match kind {
+            Kind::Propose => board.propose(e.value),
+            Kind::Announce => board.announce(n, Round(e.id), e.value),
+            Kind::Suspect => board.suspect(e.b),
+            Kind::Trust => board.trust(e.b),
+            _ => {}
+        }
     }
 
     // What an event of this kind does that no row before the last applies to.
     #[tactic(auto, using(crate::proofs::Rules::rules_tests), unfolding(crate::specs::Effects::effect_of, crate::specs::Table::turn_row, crate::specs::Events::kind_number, crate::specs::Table::first_of))]
     fn effect(&mut self, kind: Kind, e: Event) -> Result<(), Refusal>
-        requires { kind_number kind ≡ e.kind }
+        requires known { kind_number kind ≡ e.kind }
+        requires voting { e.kind ≡ turning → IsVoting limits self.old e.a }
         ensures answer { result ≡ first_of (turn_rows limits self.old e) }
         ensures ok { OnOk result (self.new ≡ effect_of limits self.old e) }
         ensures err { OnErr result (self.new ≡ self.old) }
     {
         match kind {
-            Kind::Propose => self.put_board(e.a, self.board(e.a).propose(e.value)),
             Kind::Turn => self.turn(e.a)?,
-            Kind::Deliver => self.hear(
-                e.a,
-                Statement {
-                    speaker: e.b,
-                    id: Identifier(e.id),
-                    value: e.value,
-                },
-            ),
-            Kind::Announce => self.put_board(
-                e.a,
-                self.board(e.a).announce(self.n, Round(e.id), e.value),
-            ),
-            Kind::Suspect => self.put_board(e.a, self.board(e.a).suspect(e.b)),
-            Kind::Trust => self.put_board(e.a, self.board(e.a).trust(e.b)),
+            Kind::Deliver => self.hear(e.a, e.brought()),
             Kind::Sign => self.sign(e.a, Identifier(e.id), e.value),
+            _ => self.tell(kind, e),
         }
         Ok(())
     }

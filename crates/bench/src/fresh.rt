@@ -8,7 +8,7 @@ ghost use Rattle.bench.specs.declared.answer.SetupFault.TheVariants.{NoMark};
 
 use crate::answer::SetupFault;
 use crate::bench::Bench;
-use delivery::{Delivered, Owed, set};
+use delivery::{BoardSet, Delivered, Owed};
 use signer::Signer;
 use vote::Board;
 
@@ -21,17 +21,17 @@ pub struct Fresh {
 
 // The boards of 1 to n that are marked sound, if the marks of all of these are marks.
 #[tactic(auto, using(crate::proofs::Rules::rules_fresh_sound_of), unfolding(crate::specs::Setups::is_mark_at, crate::specs::Setups::is_marked_sound))]
-fn sound_of(n: u8, marks: &[u8; Bench::BOARDS as usize]) -> Result<u16, SetupFault>
+fn sound_of(n: u8, marks: &[u8; Bench::BOARDS as usize]) -> Result<BoardSet, SetupFault>
     requires { n ≤ limits.boards }
     ensures { result ≡ (if every_in n (is_mark_at marks.now) then Ok (set_of n (is_marked_sound marks.now)) else Err NoMark) }
 {
-    let mut sound = 0u16;
+    let mut sound = BoardSet::empty();
     for (i, mark) in marks[..n as usize].iter().enumerate() {
         if !Bench::is_mark(*mark) {
             return Err(SetupFault::NoMark);
         }
         if *mark == 0 {
-            sound = set::with(sound, i as u8 + 1);
+            sound.insert(i as u8 + 1);
         }
     }
     Ok(sound)
@@ -47,7 +47,7 @@ impl Bench {
 
     // Nothing has happened yet on this bench.
     #[tactic(auto, unfolding(crate::specs::Setups::bench_of))]
-    fn of(n: u8, sound: u16) -> Bench
+    fn of(n: u8, sound: BoardSet) -> Bench
         ensures { result ≡ bench_of limits n sound }
     {
         Bench {
@@ -63,8 +63,10 @@ impl Bench {
     fn refused(fault: SetupFault) -> Fresh
         ensures { result ≡ record { bench = bench_of limits alone.n alone.sound; answer = Err fault } }
     {
+        let mut alone = BoardSet::empty();
+        alone.insert(1);
         Fresh {
-            bench: Bench::of(1, set::with(0, 1)),
+            bench: Bench::of(1, alone),
             answer: Err(fault),
         }
     }

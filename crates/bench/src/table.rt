@@ -1,18 +1,17 @@
 ghost use Rattle.std.specs.Prelude.{◌≡◌, Ok, Err, IfOk, IfErr};
 ghost use Rattle.std.specs.Prelude.{if◌then◌else◌};
 ghost use Rattle.delivery.specs.Limits.{limits};
-ghost use Rattle.bench.specs.Events.{kind_number};
-ghost use Rattle.vote.specs.Turns.{turn};
-ghost use Rattle.bench.specs.Benches.{board_at};
+ghost use Rattle.bench.specs.Events.{turning, kind_number};
+ghost use Rattle.bench.specs.Benches.{IsVoting, move_at, said_at};
 ghost use Rattle.bench.specs.declared.answer.Refusal.TheVariants.{MustWait};
-ghost use Rattle.bench.specs.Table.{boards_row, wrong_other, wrong_id, wrong_value, fields_row, mark_row, pair_row, start_row, end_row, signed_row, last_row, delivered_row, announcer_row, ballots_row, is_waiting, refuses, must_wait, first_of, event_rows, state_rows, turn_rows, check_of};
+ghost use Rattle.bench.specs.Table.{boards_row, wrong_other, wrong_id, wrong_value, fields_row, mark_row, pair_row, start_row, end_row, signed_row, last_row, delivered_row, announcer_row, ballots_row, refuses, must_wait, first_of, event_rows, state_rows, turn_rows, check_of};
 
 use crate::answer::Refusal;
 use crate::bench::Bench;
 use crate::event::{Event, Kind};
-use delivery::{Round, bus, set};
+use delivery::{Round, bus};
 use signer::{Identifier, Log, Signer, from_one};
-use vote::{Answer as TurnAnswer, Said, Turn};
+use vote::{Move, Statement};
 
 // A row of the table: the event is refused so where it applies.
 fn refuse_if(applies: bool, refusal: Refusal) -> Result<(), Refusal>
@@ -71,25 +70,14 @@ impl Event {
     }
 }
 
-// Whether a turn was answered so.
-#[tactic(auto, unfolding(crate::specs::Table::is_waiting))]
-fn is_waiting(answer: TurnAnswer) -> bool
-    ensures { result ≡ is_waiting answer }
-{
-    match answer {
-        TurnAnswer::Waiting => true,
-        _ => false,
-    }
-}
-
 // Whether a signer refuses what a board has to say.
 #[tactic(auto, using(crate::proofs::Rules::rules_tests), unfolding(crate::specs::Table::refuses))]
-fn refuses(signer: Signer, said: Said) -> bool
-    ensures { result ≡ refuses limits signer said }
+fn refuses(signer: &Signer, said: Option<Statement>) -> bool
+    ensures { result ≡ refuses limits signer.now said }
 {
     match said {
-        Said::Nothing => false,
-        Said::One(s) => !signer.grants(s.id),
+        Some(s) => !signer.grants(s.id),
+        None => false,
     }
 }
 
@@ -181,16 +169,19 @@ impl Bench {
             && self.board(e.a).tally(self.n, Round(e.id), e.value) < bus::quorum(self.n)
     }
 
-    // What a turn of board k comes to, unless it waits, or its signer refuses what it says.
-    #[tactic(auto, using(crate::proofs::Rules::rules_tests), unfolding(crate::specs::Table::must_wait))]
-    pub(crate) fn next_turn(&self, k: u8) -> Result<Turn, Refusal>
-        ensures { result ≡ (if must_wait limits self.now k then Err MustWait else Ok (turn limits self.now.n k (board_at limits self.now k))) }
+    // What board k, which is voting, does and says in its turn, unless it waits, or its signer refuses what it says.
+    #[tactic(auto, using(crate::proofs::Rules::rules_bench_bench_next_move))]
+    pub(crate) fn next_move(&self, k: u8) -> Result<(Move, Option<Statement>), Refusal>
+        requires { IsVoting limits self.now k }
+        ensures { result ≡ (if must_wait limits self.now k then Err MustWait else Ok (move_at limits self.now k, said_at limits self.now k)) }
     {
-        let turn = self.board(k).turn(self.n, k);
-        if is_waiting(turn.answer) || refuses(self.signer(k), turn.signed) {
+        let board = self.board(k);
+        let step = board.next_move(self.n, k);
+        let said = step.said(k, board.position.round);
+        if step == Move::Waits || refuses(&self.signer(k), said) {
             return Err(Refusal::MustWait);
         }
-        Ok(turn)
+        Ok((step, said))
     }
 
     // The rows about the event and the marks, of an event of this kind.
@@ -223,7 +214,7 @@ impl Bench {
     // All rows but the last, which is about what comes of a turn; the event's kind where none of them applies.
     #[tactic(auto, using(crate::proofs::Rules::rules_bench_bench_check_rows))]
     pub(crate) fn check_rows(&self, e: Event) -> Result<Kind, Refusal>
-        ensures passed { IfOk result (λ kind. (kind_number kind ≡ e.kind) × (check_of limits self.now e ≡ first_of (turn_rows limits self.now e))) }
+        ensures passed { IfOk result (λ kind. (kind_number kind ≡ e.kind) × (e.kind ≡ turning → IsVoting limits self.now e.a) × (check_of limits self.now e ≡ first_of (turn_rows limits self.now e))) }
         ensures refused { IfErr result (λ refusal. check_of limits self.now e ≡ Err refusal) }
     {
         let kind = Kind::try_from(e.kind)?;
@@ -239,7 +230,7 @@ impl Bench {
     {
         let kind = self.check_rows(e)?;
         if kind == Kind::Turn {
-            self.next_turn(e.a)?;
+            self.next_move(e.a)?;
         }
         Ok(())
     }

@@ -2,7 +2,7 @@
 use mathlib.Core.Path.{sym}
 use borrow.Author.Rules.{rules}
 use Rattle.delivery.specs.Limits.{limits}
-use Rattle.bench.proofs.TableLaws.{kind-known, check-kind, check-event, check-state, check-turn}
+use Rattle.bench.proofs.TableLaws.{kind-known, check-kind, check-event, check-state, check-turn, state-voting}
 use Rattle.bench.proofs.bench.Bench.check_rows.Goals as goal
 
 pub returns-in_err-kind-clause-refused : goal.returns-in_err-kind-clause-refused
@@ -17,5 +17,6 @@ returns-in_err-check_state-clause-refused c = search (rules, check-state limits 
 pub returns-clause-passed : goal.returns-clause-passed
 returns-clause-passed c = (
   kind-known _ _ (sym c.in_ok-kind.ensures),
+  state-voting limits c.args.self.now c.args.e _ (sym c.in_ok-check_state.ensures),
   check-turn limits c.args.self.now c.args.e _ (sym c.in_ok-kind.ensures) _ _ (sym c.in_ok-check_event.ensures) (sym c.in_ok-check_state.ensures),
 )

@@ -20,5 +20,5 @@ loop-i-preserved c =
     let at = holds-at limits a.self.now a.speaker a.id.0 i.i _ (omega arith) in
     record {
       within = omega arith;
-      passed = elim c.if-entry-ne0.branch [ then-entry-ne0 w ↦ w.have-is ∙ w.with-have.ensures ∙ set-take i.i i.have _ i.invariant.passed (omega arith) (at ∙ neg-in _ (ne_eqb _ 0 (λ z. w.if-entry-ne0.true (c.entry.ensures ∙ z)))) | else-entry-ne0 w ↦ w.have-is ∙ set-leave i.i i.have _ i.invariant.passed (at ∙ neg-no _ (eq-eqb _ 0 (sym c.entry.ensures ∙ w.if-entry-ne0.false))) ];
+      passed = elim c.if-entry-ne0.branch [ then-entry-ne0 w ↦ w.have-is ∙ w.insert.ensures ∙ set-take i.i i.have _ i.invariant.passed (omega arith) (at ∙ neg-in _ (ne_eqb _ 0 (λ z. w.if-entry-ne0.true (c.entry.ensures ∙ z)))) | else-entry-ne0 w ↦ w.have-is ∙ set-leave i.i i.have _ i.invariant.passed (at ∙ neg-no _ (eq-eqb _ 0 (sym c.entry.ensures ∙ w.if-entry-ne0.false))) ];
     }

@@ -23,6 +23,7 @@ use Rattle.bench.specs.declared.play.Played.{Played}
 use Rattle.bench.proofs.RunLaws.{length-answers, length-written, played-fits, history-written}
 use Rattle.bench.proofs.Demands.{history_from, agreed}
 use Rattle.bench.proofs.bench.Bench.play.Goals as goal
+use Rattle.bench.proofs.bench.Bench.play.Goals.{then-is_ok, else-is_ok}
 
 -- the history that stands in the buffer is that of the events that were played, so demand 3 holds of it
 agrees-played : (n : ℕ) (marks bs room : List ℕ)
@@ -43,15 +44,13 @@ agrees-played n marks bs room =
 -- the contract, from the fresh bench, how the list went, and what was played
 module _ (n : ℕ) (marks bs room : List ℕ) (f : Fresh) (x : Result (Unit {0}) Unplayed)
     (made : f ≡ fresh_of limits n marks) (went : x ≡ ending_of (length bs) (length room)) where
-  meets : (es : List Event) (b : Bench) (out : List ℕ) → played_by x bs ≡ es → b ≡ after limits f.bench es
-      → out ≡ written (answers_to limits f.bench es) room
+  meets : (b : Bench) (out : List ℕ) → b ≡ after limits f.bench (played_by x bs)
+      → out ≡ written (answers_to limits f.bench (played_by x bs)) room
       → (◌≡◌ {A = Played} (record { bench = b; answer = f.answer; ending = x }) (played_of limits n marks bs (length room)))
       × (out ≡ answers_after limits n marks bs room)
       × Agreement limits n marks (played_history bs out) b
   unfolding fresh_of played_of answers_after
-  meets es b out p q w =
-      let same : es ≡ events_played bs (length room) = sym p ∙ ap (λ (y : Result (Unit {0}) Unplayed). played_by y bs) went in
-      rw (w, q, same, made, went) (refl, refl, agrees-played n marks bs room)
+  meets b out q w = rw (w, q, made, went) (refl, refl, agrees-played n marks bs room)
 
   -- of a list that can be played every event is, and of any other none
   some : is_ok x ≡ true → played_by x bs ≡ events_in (length bs / event_bytes) bs
@@ -70,21 +69,24 @@ module _ (n : ℕ) (marks bs room : List ℕ) (f : Fresh) (x : Result (Unit {0})
       go (Ok u) h = absurd (true≢false h)
       go (Err r) h = refl
 
-pub returns-then-is_ok : goal.returns-then-is_ok
-returns-then-is_ok c =
-    let a = c.args in
-    let made = c.fresh-fresh.ensures in
-    let went = c.ending_of-ending.ensures in
-    let p = some a.n a.marks a.events.now a.answers.now _ _ made went (sym c.is_ok.ensures.value ∙ c.if-is_ok.true) in
-    let m = meets a.n a.marks a.events.now a.answers.now _ _ made went _ _ _ p c.run.ensures.bench c.run.ensures.answers in
-    record { played = m.0; answers = m.1; agreement = m.2 }
-
-pub returns-else-is_ok : goal.returns-else-is_ok
+pub returns : goal.returns
 unfolding after answers_to written
-returns-else-is_ok c =
+returns c =
     let a = c.args in
+    let bs = a.events.now in
+    let f = c.fresh-fresh.result.bench in
     let made = c.fresh-fresh.ensures in
     let went = c.ending_of-ending.ensures in
-    let p = none a.n a.marks a.events.now a.answers.now _ _ made went (sym c.is_ok.ensures.value ∙ c.if-is_ok.false) in
-    let m = meets a.n a.marks a.events.now a.answers.now _ _ made went _ _ _ p refl refl in
+    let tested = sym c.is_ok.ensures.value in
+    let out : List Event → List ℕ = λ (es : List Event). written (answers_to limits f es) a.answers.now in
+    let run : (c.if-is_ok.bench ≡ after limits f (played_by c.ending_of-ending.result bs)) × (c.if-is_ok.answers ≡ out (played_by c.ending_of-ending.result bs)) =
+    elim c.if-is_ok.branch [
+      then-is_ok w ↦
+          (let p = sym (some a.n a.marks bs a.answers.now _ _ made went (tested ∙ w.if-is_ok.true)) in
+          (w.bench-is ∙ w.run.ensures.bench ∙ ap (after limits f) p, w.answers-is ∙ w.run.ensures.answers ∙ ap out p))
+      | else-is_ok w ↦
+          (let p = sym (none a.n a.marks bs a.answers.now _ _ made went (tested ∙ w.if-is_ok.false)) in
+          (w.bench-is ∙ ap (after limits f) p, w.answers-is ∙ ap out p))
+    ] in
+    let m = meets a.n a.marks bs a.answers.now _ _ made went _ _ run.0 run.1 in
     record { played = m.0; answers = m.1; agreement = m.2 }
