@@ -14,7 +14,7 @@ use Rattle.vote.specs.Turns.{turn}
 use Rattle.vote.specs.Calls.{Call, own_turn, delivery, called}
 use Rattle.vote.specs.declared.board.Board.{Board}
 use Rattle.vote.specs.declared.statement.Statement.{Statement}
-use Rattle.std.specs.Prelude.{Option, None, Some}
+use Rattle.std.specs.Prelude.{None, Some}
 use Rattle.vote.proofs.SigningLaws.{Signs}
 use Rattle.vote.proofs.LifeLaws.{called-turn}
 use Rattle.bench.specs.Benches.{is_sound, board_at, signer_at, heard_by, signed_by, holders}

@@ -29,7 +29,7 @@ use Rattle.vote.proofs.BallotLaws.{tally-won}
 use Rattle.vote.proofs.BoardLaws.{Convinced}
 use Rattle.bench.specs.Events.{proposing, turning, delivering, announcing, suspecting, trusting, signing}
 use Rattle.bench.specs.Benches.{is_sound, board_at, signer_at, heard_by, signed_by}
-use Rattle.bench.specs.Answers.{answer_number, is_accepted}
+use Rattle.bench.specs.Answers.{is_accepted}
 use Rattle.bench.specs.Table.{kind_row, boards_row, wrong_id, wrong_value, fields_row, mark_row, start_row, end_row, signed_row, last_row, delivered_row, ballots_row, refuses, must_wait, turn_row, first_of, check_of}
 use Rattle.bench.specs.Effects.{with_board_at, with_signature, after_turn, after_hearing, brought, effect_of}
 use Rattle.bench.proofs.AnswerLaws.{refused-so}

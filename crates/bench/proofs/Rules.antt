@@ -5,7 +5,6 @@ use Rattle.bench.proofs.RunLaws.{after_next, after_none, answers-none, answers_n
 use Rattle.bench.proofs.SetupLaws.{limits-ground, marks-none, marks-next, marks-fail}
 use Rattle.bench.proofs.TableLaws.{check-event, check-kind, check-state, check-turn, kind-known, not_same}
 use Rattle.bench.proofs.TurnLaws.{saying-board, turn-made, wait-neither, wait-refuses, wait-waits}
-use Rattle.delivery.proofs.CountLaws.{every-reads, reads-every}
 use Rattle.delivery.proofs.SetLaws.{set-leave, set-none, set-take}
 use Rattle.delivery.proofs.TestLaws.{and-no-left, and-no-right, and-yes-left, neg-in, neg-no, or-no-left, or-no-right, or_left, or_no, or_right}
 use Rattle.std.proofs.lemmas.List.{get_or-take}

@@ -22,7 +22,7 @@ use Rattle.bench.specs.Runs.{after, answers_to, events_in, ending_of, played_by,
 use Rattle.bench.specs.Story.{History, history_of}
 use Rattle.bench.specs.declared.bench.Bench.{Bench}
 use Rattle.bench.specs.declared.event.Event.{Event}
-use Rattle.std.specs.Prelude.{Result, Ok, Err}
+use Rattle.std.specs.Prelude.{Result, Ok}
 use Rattle.bench.specs.declared.play.Unplayed.{Unplayed}
 
 -- an event is its six bytes, and no byte after them matters

@@ -13,8 +13,8 @@ use Rattle.signer.proofs.ConditionalLaws.{if-true, if-false}
 use Rattle.delivery.specs.Tests.{◌and◌, ◌or◌, neg}
 use Rattle.delivery.proofs.TestLaws.{and-yes-left, and-no-left, and-under, or_left, or_right, or_no, or-no-left, or-no-right, or-false-left, or-false-right, neg-no, neg-in, neg-false, fails}
 use Rattle.signer.proofs.FromOneLaws.{within_low, within-high, within_in}
-use Rattle.bench.specs.Events.{proposing, turning, delivering, announcing, suspecting, trusting, signing, kind_number, kind_of, uses_other, uses_id}
-use Rattle.bench.specs.Table.{kind_row, boards_row, start_row, end_row, first_of, event_rows, state_rows, turn_rows, table_of, check_of}
+use Rattle.bench.specs.Events.{turning, delivering, announcing, suspecting, trusting, signing, kind_number, kind_of, uses_other, uses_id}
+use Rattle.bench.specs.Table.{kind_row, boards_row, start_row, end_row, first_of, event_rows, state_rows, turn_rows, check_of}
 use Rattle.bench.specs.declared.event.Kind.{Kind}
 use Rattle.bench.specs.declared.event.Kind.TheVariants.{Propose, Turn, Deliver, Announce, Suspect, Trust, Sign}
 use Rattle.bench.specs.Benches.{board_at}
@@ -22,7 +22,7 @@ use Rattle.vote.specs.declared.board.Status.TheVariants.{Voting}
 use Rattle.vote.proofs.StatusLaws.{going-voting}
 use Rattle.bench.specs.declared.bench.Bench.{Bench}
 use Rattle.bench.specs.declared.event.Event.{Event}
-use Rattle.std.specs.Prelude.{Result, Ok, Err}
+use Rattle.std.specs.Prelude.{Ok, Err}
 use Rattle.bench.specs.declared.answer.Refusal.{Refusal}
 use Rattle.bench.specs.declared.answer.Refusal.TheVariants.{NoKind}
 use Rattle.delivery.specs.Limits.{Limits}

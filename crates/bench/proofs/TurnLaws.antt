@@ -1,23 +1,20 @@
 -- Laws of a turn on a bench: of a board that is voting, by what its rule has it do. Assumes nothing.
-use Prim.Native.Nat.{ℕ, ◌-◌, ◌≤◌, ◌<◌}
+use Prim.Native.Nat.{ℕ}
 use native.Mathlib.Omega.{arith}
 use mathlib.Core.Path.{◌≡◌, refl, sym, ap, ◌∙◌}
-use mathlib.Core.Bool.{Bool, true, false, true≢false}
+use mathlib.Core.Bool.{true, false, true≢false}
 use mathlib.Core.Logic.{⊎_elim}
 use Rattle.delivery.proofs.TestLaws.{or_left, or_right, or_no, decided}
 use Rattle.vote.proofs.BoardLaws.{fresh-status}
 use Rattle.vote.proofs.StatusLaws.{started-voting, idle-unstarted}
 use Rattle.vote.specs.declared.statement.Statement.{Statement}
 use lib.ListN.{length}
-use Rattle.std.specs.Prelude.{Option, None, Some, Result, Ok, Err}
-use Rattle.signer.specs.FromOne.{nth}
+use Rattle.std.specs.Prelude.{Option, None, Some}
 use Rattle.signer.proofs.FromOneLaws.{within-out, nth-none}
 use Rattle.delivery.specs.Limits.{Limits}
 use Rattle.delivery.specs.Bus.{is_board}
-use Rattle.delivery.specs.Tests.{◌or◌}
-use Rattle.vote.specs.Rule.{rule}
 use Rattle.vote.specs.Boards.{fresh_board, is_started}
-use Rattle.vote.specs.Turns.{take, turn, said_in}
+use Rattle.vote.specs.Turns.{take, turn}
 use Rattle.vote.specs.declared.board.Board.{Board}
 use Rattle.vote.specs.declared.board.Status.TheVariants.{Voting}
 use Rattle.vote.specs.declared.rule.Move.{Move}

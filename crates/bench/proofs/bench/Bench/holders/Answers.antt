@@ -1,5 +1,4 @@
 -- `Bench::holders` meets its contract: each board passed is taken or left. Assumes nothing.
-use Prim.Native.Nat.{ℕ}
 use borrow.Author.Rules.{rules}
 use borrow.Author.Tests.{eq-eqb, ne_eqb}
 use native.Mathlib.Omega.{arith}

@@ -10,7 +10,7 @@ use Rattle.std.specs.Prelude.{Result, Ok, Err}
 use Rattle.std.specs.Result.{is_ok}
 use Rattle.delivery.specs.Limits.{limits}
 use Rattle.bench.specs.Events.{event_bytes}
-use Rattle.bench.specs.Setups.{fresh_answer, fresh_bench, fresh_of}
+use Rattle.bench.specs.Setups.{fresh_bench, fresh_of}
 use Rattle.bench.specs.Runs.{after, answers_to, events_in, ending_of, played_by, events_played, written, played_of, answers_after}
 use Rattle.bench.specs.Story.{History, history_of}
 use Rattle.bench.specs.Claim.{Agreement}
