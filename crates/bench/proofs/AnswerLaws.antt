@@ -13,7 +13,7 @@ use Rattle.vote.specs.Turns.{turn_number}
 use Rattle.vote.proofs.TurnLaws.{refusal-within as turn-within}
 use Rattle.vote.specs.declared.turn.Refusal.{Refusal as TurnRefusal}
 use Rattle.vote.specs.declared.turn.Refusal.TheVariants.{NotStarted, Ended, Waiting}
-use Rattle.bench.specs.Answers.{fault_number, fresh_number, refusal_number, answer_number, is_accepted}
+use Rattle.bench.specs.Answers.{setup_number, fresh_number, refusal_number, answer_number, is_accepted}
 use Rattle.bench.specs.Table.{check_of}
 use Rattle.bench.specs.Effects.{effect_of, step_of}
 use Rattle.bench.specs.Demands.{IsEventRow}
@@ -66,6 +66,16 @@ refusal-some MustWait e = turn-some Waiting e
 pub refused-so : (r : Refusal) → is_accepted (Err r) ≡ false
 unfolding is_accepted answer_number
 refused-so r = ne_eqb (refusal_number r) 0 (refusal-some r)
+
+-- so does what a board answers to a turn that it does not take
+pub start-refused : is_accepted (Err WrongStart) ≡ false
+start-refused = refused-so WrongStart
+
+pub end_refused : is_accepted (Err AtEnd) ≡ false
+end_refused = refused-so AtEnd
+
+pub wait-refused : is_accepted (Err MustWait) ≡ false
+wait-refused = refused-so MustWait
 
 -- an accepted event has its effect and is answered 0; a refused one leaves the bench as it was, and is not answered 0
 module _ (L : Limits) (c : Bench) (e : Event) where
@@ -121,14 +131,14 @@ answer-within (Ok _) = inl refl
 answer-within (Err r) = refusal-within r
 
 pub fresh-within : (a : Result (Unit {0}) SetupFault) → (fresh_number a ≡ 0) ⊎ ((2 ≤ fresh_number a) × (fresh_number a ≤ 3))
-unfolding fresh_number fault_number
+unfolding fresh_number setup_number
 fresh-within (Ok _) = inl refl
 fresh-within (Err NoBus) = inr (omega arith, omega arith)
 fresh-within (Err NoMark) = inr (omega arith, omega arith)
 
 -- and 0 is that of a bench that is made, alone
 pub fresh-made : (a : Result (Unit {0}) SetupFault) → fresh_number a ≡ 0 → a ≡ Ok tt
-unfolding fresh_number fault_number
+unfolding fresh_number setup_number
 fresh-made (Ok _) e = refl
 fresh-made (Err NoBus) e = absurd (omega arith)
 fresh-made (Err NoMark) e = absurd (omega arith)

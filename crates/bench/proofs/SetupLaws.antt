@@ -34,7 +34,7 @@ use Rattle.vote.proofs.ProperLaws.{Proper, fresh-proper}
 use Rattle.vote.proofs.LifeLaws.{Grounded, fresh-grounded}
 use Rattle.bench.specs.Benches.{signer_at, heard_by, signed_by}
 use Rattle.bench.specs.Setups.{is_mark, is_mark_at, is_marked_sound, Setup, fresh_answer, setup_by, setup, bench_of, fresh_bench, fresh_of}
-use Rattle.bench.specs.Answers.{fault_number, fresh_number}
+use Rattle.bench.specs.Answers.{setup_number, fresh_number}
 use Rattle.bench.specs.declared.answer.SetupFault.{SetupFault}
 use Rattle.bench.specs.declared.answer.SetupFault.TheVariants.{NoBus, NoMark}
 use Rattle.bench.specs.declared.bench.Bench.{Bench}
@@ -99,7 +99,7 @@ marks-fail n i marks l f = fails _ (λ h. true≢false (sym (every-reads n _ h (
 
 -- a bench that is made has a number of boards that there can be
 made-board : (L : Limits) (n : ℕ) (marks : List ℕ) → fresh_answer L n marks ≡ Ok tt → is_board L n ≡ true
-unfolding fresh_answer fresh_number fault_number
+unfolding fresh_answer fresh_number setup_number
 made-board L n marks =
     if-elim
     (λ (a : Result (Unit {0}) SetupFault). a ≡ Ok tt → is_board L n ≡ true)

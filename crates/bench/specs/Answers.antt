@@ -22,13 +22,13 @@ use Rattle.bench.specs.declared.answer.SetupFault.{SetupFault}
 use Rattle.bench.specs.declared.answer.SetupFault.TheVariants.{NoBus, NoMark}
 
 -- the call for a fresh bench is refused: n is no number of boards, or a mark is none
-unfoldable pub fault_number : SetupFault → ℕ
-fault_number NoBus = 2
-fault_number NoMark = 3
+unfoldable pub setup_number : SetupFault → ℕ
+setup_number NoBus = 2
+setup_number NoMark = 3
 
 unfoldable pub fresh_number : Result (Unit {0}) SetupFault → ℕ
 fresh_number (Ok _) = 0
-fresh_number (Err fault) = fault_number fault
+fresh_number (Err fault) = setup_number fault
 
 -- An event is refused by a row of the table. What a board itself answers to its turn has the vote's number: 15, 16 and 22.
 unfoldable pub refusal_number : Refusal → ℕ

@@ -1,5 +1,5 @@
 ghost use Rattle.std.specs.Prelude.{◌≡◌};
-ghost use Rattle.bench.specs.Answers.{fault_number, refusal_number, answer_number};
+ghost use Rattle.bench.specs.Answers.{setup_number, refusal_number, answer_number};
 
 use vote::Refusal as TurnRefusal;
 
@@ -30,9 +30,9 @@ pub enum Refusal {
 
 impl SetupFault {
     // Its number in document 01's table.
-    #[tactic(auto, unfolding(crate::specs::Answers::fault_number))]
+    #[tactic(auto, unfolding(crate::specs::Answers::setup_number))]
     pub fn number(self) -> u8
-        ensures { result ≡ fault_number self }
+        ensures { result ≡ setup_number self }
     {
         match self {
             SetupFault::NoBus => 2,

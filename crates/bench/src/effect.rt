@@ -157,8 +157,7 @@ impl Bench {
 
     // One event, on a bench that is lent: the answer is returned, and the bench left as it is afterwards.
     pub fn apply(&mut self, e: Event) -> Result<(), Refusal>
-        ensures answer { result ≡ (step_of limits self.old e).answer }
-        ensures bench { self.new ≡ (step_of limits self.old e).bench }
+        ensures { (result ≡ (step_of limits self.old e).answer) × (self.new ≡ (step_of limits self.old e).bench) }
     {
         let out = (*self).event(e);
         *self = out.bench;

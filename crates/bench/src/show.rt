@@ -1,6 +1,6 @@
 ghost use Rattle.std.specs.Prelude.{◌≡◌};
 ghost use Rattle.delivery.specs.Limits.{limits};
-ghost use Rattle.bench.specs.Shows.{letter_byte, standing, shown};
+ghost use Rattle.bench.specs.Shows.{letter_byte, plain, standing, shown};
 
 use crate::bench::Bench;
 use delivery::Round;
@@ -19,7 +19,7 @@ pub enum Letter {
 }
 
 // What a bench shows of a board.
-#[derive(Clone, Copy)]
+#[derive(Clone, Copy, Debug, PartialEq, Eq)]
 pub struct Shown {
     pub letter: Letter,
     pub round: Round,
@@ -43,42 +43,28 @@ impl Letter {
     }
 }
 
+// Made of a letter, a round and a value.
+fn plain(letter: Letter, round: Round, value: u16) -> Shown
+    ensures { result ≡ plain letter round.0 value }
+{
+    Shown {
+        letter,
+        round,
+        value,
+    }
+}
+
 // How a sound board stands.
 #[tactic(auto, unfolding(crate::specs::Shows::standing))]
 fn standing(board: Board) -> Shown
     ensures { result ≡ standing board.position board.status }
 {
-    let status = board.status;
-    match status {
-        Status::Idle => Shown {
-            letter: Letter::NotStarted,
-            round: Round(0),
-            value: 0,
-        },
-        Status::Voting => {
-            let round = board.position.round;
-            Shown {
-                letter: Letter::Voting,
-                round,
-                value: board.position.estimate,
-            }
-        }
-        Status::Spent => {
-            let round = board.position.round;
-            Shown {
-                letter: Letter::Spent,
-                round,
-                value: board.position.estimate,
-            }
-        }
-        Status::Decided(d) => {
-            let round = d.round;
-            Shown {
-                letter: Letter::Decided,
-                round,
-                value: d.value,
-            }
-        }
+    let position = board.position;
+    match board.status {
+        Status::Idle => plain(Letter::NotStarted, Round(0), 0),
+        Status::Voting => plain(Letter::Voting, position.round, position.estimate),
+        Status::Spent => plain(Letter::Spent, position.round, position.estimate),
+        Status::Decided(d) => plain(Letter::Decided, d.round, d.value),
     }
 }
 
@@ -89,18 +75,10 @@ impl Bench {
         ensures { result ≡ shown limits self.now k }
     {
         if !from_one::within(k, self.n) {
-            return Shown {
-                letter: Letter::Absent,
-                round: Round(0),
-                value: 0,
-            };
+            return plain(Letter::Absent, Round(0), 0);
         }
         if !self.is_sound(k) {
-            return Shown {
-                letter: Letter::Faulty,
-                round: Round(0),
-                value: 0,
-            };
+            return plain(Letter::Faulty, Round(0), 0);
         }
         standing(self.board(k))
     }
