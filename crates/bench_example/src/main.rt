@@ -9,8 +9,7 @@ ghost use Rattle.bench.specs.Setups.{fresh_bench};
 ghost use Rattle.bench.specs.Effects.{step_of};
 ghost use Rattle.bench.specs.Runs.{after};
 
-use bench::{Answer, Bench, Ending, Event};
-use delivery::set;
+use bench::{Bench, Event, Kind, Refusal, Unplayed};
 use signer::Identifier;
 use std::io;
 
@@ -34,49 +33,49 @@ const UNREAD: [u8; Bench::BOARDS as usize] = [0, 9, 9, 9, 9, 9, 9];
 // A board alone.
 const ALONE: [[u8; Event::BYTES]; 4] = [
     // it proposes 700
-    [Event::PROPOSE, 1, 0, 0, 2, 188],
+    [Kind::Propose as u8, 1, 0, 0, 2, 188],
     // it opens round 1, votes, and decides by its own ballot
-    [Event::TURN, 1, 0, 0, 0, 0],
-    [Event::TURN, 1, 0, 0, 0, 0],
-    [Event::TURN, 1, 0, 0, 0, 0],
+    [Kind::Turn as u8, 1, 0, 0, 0, 0],
+    [Kind::Turn as u8, 1, 0, 0, 0, 0],
+    [Kind::Turn as u8, 1, 0, 0, 0, 0],
 ];
 
 // The incident, as in schedules/incident: board 2 was reset, and has to count as faulty.
 const INCIDENT: [[u8; Event::BYTES]; 23] = [
     // board 1 proposes set 41, opens round 1 with it, and votes for it
-    [Event::PROPOSE, 1, 0, 0, 0, 41],
-    [Event::TURN, 1, 0, 0, 0, 0],
-    [Event::TURN, 1, 0, 0, 0, 0],
+    [Kind::Propose as u8, 1, 0, 0, 0, 41],
+    [Kind::Turn as u8, 1, 0, 0, 0, 0],
+    [Kind::Turn as u8, 1, 0, 0, 0, 0],
     // so does board 2, and board 1 hears it
-    [Event::SIGN, 2, 0, 2, 0, 41],
-    [Event::DELIVER, 1, 2, 2, 0, 41],
+    [Kind::Sign as u8, 2, 0, 2, 0, 41],
+    [Kind::Deliver as u8, 1, 2, 2, 0, 41],
     // board 3 is silent; board 1 suspects it, and decides 41 by the two ballots
-    [Event::SUSPECT, 1, 3, 0, 0, 0],
-    [Event::TURN, 1, 0, 0, 0, 0],
+    [Kind::Suspect as u8, 1, 3, 0, 0, 0],
+    [Kind::Turn as u8, 1, 0, 0, 0, 0],
     // board 3 proposes set 40, and does not open round 1; it has heard nothing of board 1, suspects it, and votes blank
-    [Event::PROPOSE, 3, 0, 0, 0, 40],
-    [Event::TURN, 3, 0, 0, 0, 0],
-    [Event::SUSPECT, 3, 1, 0, 0, 0],
-    [Event::TURN, 3, 0, 0, 0, 0],
+    [Kind::Propose as u8, 3, 0, 0, 0, 40],
+    [Kind::Turn as u8, 3, 0, 0, 0, 0],
+    [Kind::Suspect as u8, 3, 1, 0, 0, 0],
+    [Kind::Turn as u8, 3, 0, 0, 0, 0],
     // then it hears the opening of round 1 and board 1's ballot
-    [Event::DELIVER, 3, 1, 1, 0, 41],
-    [Event::DELIVER, 3, 1, 2, 0, 41],
+    [Kind::Deliver as u8, 3, 1, 1, 0, 41],
+    [Kind::Deliver as u8, 3, 1, 2, 0, 41],
     // it suspects board 2, whose ballot is still on its way, and goes on to round 2 with estimate 41
-    [Event::SUSPECT, 3, 2, 0, 0, 0],
-    [Event::TURN, 3, 0, 0, 0, 0],
+    [Kind::Suspect as u8, 3, 2, 0, 0, 0],
+    [Kind::Turn as u8, 3, 0, 0, 0, 0],
     // board 2, fresh from its reset, opens round 2 with 40; board 3 does not open it, and hears that opening
-    [Event::SIGN, 2, 0, 3, 0, 40],
-    [Event::TURN, 3, 0, 0, 0, 0],
-    [Event::DELIVER, 3, 2, 3, 0, 40],
+    [Kind::Sign as u8, 2, 0, 3, 0, 40],
+    [Kind::Turn as u8, 3, 0, 0, 0, 0],
+    [Kind::Deliver as u8, 3, 2, 3, 0, 40],
     // board 3 does not take 40: its ballot is blank
-    [Event::TURN, 3, 0, 0, 0, 0],
+    [Kind::Turn as u8, 3, 0, 0, 0, 0],
     // board 2 announces 40 in round 2, which has no ballot (21)
-    [Event::ANNOUNCE, 3, 2, 2, 0, 40],
+    [Kind::Announce as u8, 3, 2, 2, 0, 40],
     // board 1 announces 41 in round 1, of which board 3 has one ballot and needs two (21)
-    [Event::ANNOUNCE, 3, 1, 1, 0, 41],
+    [Kind::Announce as u8, 3, 1, 1, 0, 41],
     // board 2's ballot comes, and now the announcement is taken
-    [Event::DELIVER, 3, 2, 2, 0, 41],
-    [Event::ANNOUNCE, 3, 1, 1, 0, 41],
+    [Kind::Deliver as u8, 3, 2, 2, 0, 41],
+    [Kind::Announce as u8, 3, 1, 1, 0, 41],
 ];
 
 // Every answer to an event, from 10 to 22, on a bench of three boards whose third is faulty.
@@ -84,153 +83,120 @@ const EVERY_ANSWER: [[u8; Event::BYTES]; 22] = [
     // 10: there is no such kind
     [0, 1, 0, 0, 0, 0],
     // 11: there is no fourth board
-    [Event::PROPOSE, 4, 0, 0, 2, 188],
+    [Kind::Propose as u8, 4, 0, 0, 2, 188],
     // 12: the blank cannot be proposed
-    [Event::PROPOSE, 1, 0, 0, 0, 0],
+    [Kind::Propose as u8, 1, 0, 0, 0, 0],
     // 13: a faulty board does not propose
-    [Event::PROPOSE, 3, 0, 0, 2, 188],
+    [Kind::Propose as u8, 3, 0, 0, 2, 188],
     // 14: no board suspects itself
-    [Event::SUSPECT, 1, 1, 0, 0, 0],
+    [Kind::Suspect as u8, 1, 1, 0, 0, 0],
     // 15: board 1 has not started
-    [Event::TURN, 1, 0, 0, 0, 0],
+    [Kind::Turn as u8, 1, 0, 0, 0, 0],
     // board 1 proposes 700, opens round 1 and votes
-    [Event::PROPOSE, 1, 0, 0, 2, 188],
-    [Event::TURN, 1, 0, 0, 0, 0],
-    [Event::TURN, 1, 0, 0, 0, 0],
+    [Kind::Propose as u8, 1, 0, 0, 2, 188],
+    [Kind::Turn as u8, 1, 0, 0, 0, 0],
+    [Kind::Turn as u8, 1, 0, 0, 0, 0],
     // board 3 votes for 700 too, which board 1 hears; it suspects board 2, and decides
-    [Event::SIGN, 3, 0, 2, 2, 188],
-    [Event::DELIVER, 1, 3, 2, 2, 188],
-    [Event::SUSPECT, 1, 2, 0, 0, 0],
-    [Event::TURN, 1, 0, 0, 0, 0],
+    [Kind::Sign as u8, 3, 0, 2, 2, 188],
+    [Kind::Deliver as u8, 1, 3, 2, 2, 188],
+    [Kind::Suspect as u8, 1, 2, 0, 0, 0],
+    [Kind::Turn as u8, 1, 0, 0, 0, 0],
     // 16: it has decided, and has no turn any more
-    [Event::TURN, 1, 0, 0, 0, 0],
+    [Kind::Turn as u8, 1, 0, 0, 0, 0],
     // 17: board 3 signed 700 in its ballot, not 701
-    [Event::DELIVER, 2, 3, 2, 2, 189],
+    [Kind::Deliver as u8, 2, 3, 2, 2, 189],
     // 18: and can sign no other ballot
-    [Event::SIGN, 3, 0, 2, 2, 189],
+    [Kind::Sign as u8, 3, 0, 2, 2, 189],
     // 19: board 1 has this ballot already
-    [Event::DELIVER, 1, 3, 2, 2, 188],
+    [Kind::Deliver as u8, 1, 3, 2, 2, 188],
     // board 2 proposes 701
-    [Event::PROPOSE, 2, 0, 0, 2, 189],
+    [Kind::Propose as u8, 2, 0, 0, 2, 189],
     // 20: board 1 is sound, and decided 700, not 701
-    [Event::ANNOUNCE, 2, 1, 1, 2, 189],
+    [Kind::Announce as u8, 2, 1, 1, 2, 189],
     // 21: it did decide 700 in round 1, but board 2 has none of the ballots
-    [Event::ANNOUNCE, 2, 1, 1, 2, 188],
+    [Kind::Announce as u8, 2, 1, 1, 2, 188],
     // board 2 does not open round 1
-    [Event::TURN, 2, 0, 0, 0, 0],
+    [Kind::Turn as u8, 2, 0, 0, 0, 0],
     // 22: it waits for the opening, since it does not suspect board 1
-    [Event::TURN, 2, 0, 0, 0, 0],
+    [Kind::Turn as u8, 2, 0, 0, 0, 0],
 ];
 
 // Two faulty boards of three.
 const TWO_FAULTY: [[u8; Event::BYTES]; 17] = [
     // board 1 proposes 700, opens round 1 and votes
-    [Event::PROPOSE, 1, 0, 0, 2, 188],
-    [Event::TURN, 1, 0, 0, 0, 0],
-    [Event::TURN, 1, 0, 0, 0, 0],
+    [Kind::Propose as u8, 1, 0, 0, 2, 188],
+    [Kind::Turn as u8, 1, 0, 0, 0, 0],
+    [Kind::Turn as u8, 1, 0, 0, 0, 0],
     // the others vote blank, and board 1 hears both
-    [Event::SIGN, 2, 0, 2, 0, 0],
-    [Event::SIGN, 3, 0, 2, 0, 0],
-    [Event::DELIVER, 1, 2, 2, 0, 0],
-    [Event::DELIVER, 1, 3, 2, 0, 0],
+    [Kind::Sign as u8, 2, 0, 2, 0, 0],
+    [Kind::Sign as u8, 3, 0, 2, 0, 0],
+    [Kind::Deliver as u8, 1, 2, 2, 0, 0],
+    [Kind::Deliver as u8, 1, 3, 2, 0, 0],
     // it goes on to round 2, which it does not open
-    [Event::TURN, 1, 0, 0, 0, 0],
-    [Event::TURN, 1, 0, 0, 0, 0],
+    [Kind::Turn as u8, 1, 0, 0, 0, 0],
+    [Kind::Turn as u8, 1, 0, 0, 0, 0],
     // board 2 opens round 2 with 50, which two blank ballots allow; board 1 votes for it
-    [Event::SIGN, 2, 0, 3, 0, 50],
-    [Event::DELIVER, 1, 2, 3, 0, 50],
-    [Event::TURN, 1, 0, 0, 0, 0],
+    [Kind::Sign as u8, 2, 0, 3, 0, 50],
+    [Kind::Deliver as u8, 1, 2, 3, 0, 50],
+    [Kind::Turn as u8, 1, 0, 0, 0, 0],
     // so does board 3, and board 1 hears it
-    [Event::SIGN, 3, 0, 4, 0, 50],
-    [Event::DELIVER, 1, 3, 4, 0, 50],
+    [Kind::Sign as u8, 3, 0, 4, 0, 50],
+    [Kind::Deliver as u8, 1, 3, 4, 0, 50],
     // board 1 has two ballots, but waits for that of board 2 (22), until it suspects it; then it decides 50
-    [Event::TURN, 1, 0, 0, 0, 0],
-    [Event::SUSPECT, 1, 2, 0, 0, 0],
-    [Event::TURN, 1, 0, 0, 0, 0],
+    [Kind::Turn as u8, 1, 0, 0, 0, 0],
+    [Kind::Suspect as u8, 1, 2, 0, 0, 0],
+    [Kind::Turn as u8, 1, 0, 0, 0, 0],
 ];
 
 // A statement of board 1 reaches the others.
 const ECHO: [[u8; Event::BYTES]; 4] = [
     // board 1 proposes 700 and opens round 1: a copy is owed to boards 2 and 3
-    [Event::PROPOSE, 1, 0, 0, 2, 188],
-    [Event::TURN, 1, 0, 0, 0, 0],
+    [Kind::Propose as u8, 1, 0, 0, 2, 188],
+    [Kind::Turn as u8, 1, 0, 0, 0, 0],
     // board 2 hears it; the copy to board 3 is owed still
-    [Event::DELIVER, 2, 1, 1, 2, 188],
+    [Kind::Deliver as u8, 2, 1, 1, 2, 188],
     // board 3 hears it
-    [Event::DELIVER, 3, 1, 1, 2, 188],
+    [Kind::Deliver as u8, 3, 1, 1, 2, 188],
 ];
 
 // The most events of a schedule here.
 const EVENTS: usize = 23;
 
-fn write(rt: &HostRuntime, text: &str) -> io::Result<()> {
-    print!(rt; "{text}")
-}
-
-fn write_number(rt: &HostRuntime, text: &str, n: u64) -> io::Result<()> {
-    print!(rt; "{text} {n}")
-}
-
-// A number that ends its line.
-fn write_last(rt: &HostRuntime, text: &str, n: u64) -> io::Result<()> {
-    write_number(rt, text, n)?;
-    write(rt, "\n")
-}
-
-// The answer to an event, with the event's number.
-fn write_answer(rt: &HostRuntime, number: u64, answer: u8) -> io::Result<()> {
-    print!(rt; "{number}")?;
-    write_last(rt, "", answer as u64)
-}
-
+// The answers to events, each with the event's number.
 fn write_answers(rt: &HostRuntime, answers: &[u8]) -> io::Result<()> {
-    let mut k = 0usize;
-    while k < answers.len() {
-        let answer = answers[k];
-        k += 1;
-        write_answer(rt, k as u64, answer)?;
+    for (k, answer) in answers.iter().enumerate() {
+        let number = k + 1;
+        println!(rt; "{number} {answer}")?;
     }
     Ok(())
 }
 
-// How board k stands.
-fn write_board(rt: &HostRuntime, bench: Bench, k: u8) -> io::Result<()> {
-    print!(rt; "{k}")?;
-    let shown = bench.shown(k);
-    let letter = shown.letter.byte() as char;
-    print!(rt; " {letter}")?;
-    write_number(rt, "", shown.round.0 as u64)?;
-    write_last(rt, "", shown.value as u64)
-}
-
-fn write_boards(rt: &HostRuntime, bench: Bench) -> io::Result<()> {
-    let mut k = 0u8;
-    while k < bench.n {
-        k += 1;
-        write_board(rt, bench, k)?;
+// How each board stands.
+fn write_boards(rt: &HostRuntime, bench: &Bench) -> io::Result<()> {
+    for k in 1..=bench.n {
+        let shown = bench.shown(k);
+        let letter = shown.letter.byte() as char;
+        let round = shown.round.0;
+        let value = shown.value;
+        println!(rt; "{k} {letter} {round} {value}")?;
     }
     Ok(())
 }
 
 // How many copies of a speaker's statements are owed.
-fn owed_of(bench: Bench, speaker: u8) -> u16 {
+fn owed_of(bench: &Bench, speaker: u8) -> u16 {
     let mut copies = 0u16;
-    let mut id = 0u8;
-    while id < Identifier::LAST {
-        id += 1;
-        let receivers = bench.owed(speaker, Identifier(id));
-        copies += set::count(receivers, Bench::BOARDS) as u16;
+    for id in 1..=Identifier::LAST {
+        copies += u16::from(bench.owed(speaker, Identifier(id)).count(Bench::BOARDS));
     }
     copies
 }
 
 // How many copies are owed.
-fn owed(bench: Bench) -> u64 {
+fn owed(bench: &Bench) -> u64 {
     let mut copies = 0u64;
-    let mut k = 0u8;
-    while k < Bench::BOARDS {
-        k += 1;
-        copies += owed_of(bench, k) as u64;
+    for k in 1..=Bench::BOARDS {
+        copies += u64::from(owed_of(bench, k));
     }
     copies
 }
@@ -245,30 +211,30 @@ fn play(
     events: &[u8],
     answers: &mut [u8],
 ) -> io::Result<()> {
-    write(rt, title)?;
+    print!(rt; "{title}")?;
     let played = Bench::play(n, marks, events, answers);
-    let answer = played.answer;
-    write_last(rt, "fresh", answer.number() as u64)?;
-    let ending = played.ending;
-    match ending {
-        Ending::Played => write_answers(rt, &answers[..events.len() / Event::BYTES])?,
-        Ending::Ragged => write(rt, "not played: ragged\n")?,
-        Ending::Short => write(rt, "not played: short\n")?,
+    let fresh = match played.answer {
+        Ok(()) => 0,
+        Err(fault) => fault.number(),
+    };
+    println!(rt; "fresh {fresh}")?;
+    match played.ending {
+        Ok(()) => write_answers(rt, &answers[..events.len() / Event::BYTES])?,
+        Err(Unplayed::Ragged) => println!(rt; "not played: ragged")?,
+        Err(Unplayed::Short) => println!(rt; "not played: short")?,
     }
-    let bench = played.bench;
-    write_boards(rt, bench)?;
-    write_last(rt, "owed", owed(bench))
+    write_boards(rt, &played.bench)?;
+    let copies = owed(&played.bench);
+    println!(rt; "owed {copies}")
 }
 
 // The bytes of a schedule, one event after another; after them, zeros.
 fn bytes_of(schedule: &[[u8; Event::BYTES]]) -> [u8; EVENTS * Event::BYTES] {
     let mut bytes = [0u8; EVENTS * Event::BYTES];
-    let mut at = 0usize;
-    while at < bytes.len() {
+    for (at, byte) in bytes.iter_mut().enumerate() {
         if at / Event::BYTES < schedule.len() {
-            bytes[at] = schedule[at / Event::BYTES][at % Event::BYTES];
+            *byte = schedule[at / Event::BYTES][at % Event::BYTES];
         }
-        at += 1;
     }
     bytes
 }
@@ -375,7 +341,7 @@ fn copies(rt: &HostRuntime) -> io::Result<()> {
 // Board 1 proposes 700.
 fn proposal() -> Event {
     Event {
-        kind: Event::PROPOSE,
+        kind: Kind::Propose as u8,
         a: 1,
         b: 0,
         id: 0,
@@ -386,7 +352,7 @@ fn proposal() -> Event {
 // Board 1 takes its turn.
 fn turn() -> Event {
     Event {
-        kind: Event::TURN,
+        kind: Kind::Turn as u8,
         a: 1,
         b: 0,
         id: 0,
@@ -401,10 +367,13 @@ fn opening(rt: &HostRuntime) -> io::Result<()> {
     let proposed = bench.event(proposal()).bench;
     let opened = proposed.event(turn()).bench;
     let id = Identifier(1);
-    write(rt, "board 1 opens round 1 with 700\n")?;
-    write_last(rt, "signed", opened.signed(1, id) as u64)?;
-    write_last(rt, "delivered by 1", opened.delivered(1, 1, id) as u64)?;
-    write_last(rt, "delivered by 2", opened.delivered(2, 1, id) as u64)
+    let signed = opened.signed(1, id);
+    let first = opened.delivered(1, 1, id);
+    let second = opened.delivered(2, 1, id);
+    println!(rt; "board 1 opens round 1 with 700")?;
+    println!(rt; "signed {signed}")?;
+    println!(rt; "delivered by 1 {first}")?;
+    println!(rt; "delivered by 2 {second}")
 }
 
 // Lists that cannot be played: one event and a byte, and four events with room for three answers.
@@ -438,26 +407,24 @@ fn answer_after(
     first: Event,
     again: Event,
     times: u8,
-) -> Answer
+) -> Result<(), Refusal>
     ensures { result ≡ (step_of limits (after limits (fresh_bench limits n marks) (first ∷ replicate times again)) again).answer }
 {
     let mut bench = Bench::fresh(n, marks).bench;
-    bench.apply(first);
-    let mut k = 0u8;
-    while k < times {
-        bench.apply(again);
-        k += 1;
+    let _ = bench.apply(first);
+    for _k in 0..times {
+        let _ = bench.apply(again);
     }
     bench.apply(again)
 }
 
 // A board alone proposes 700. With its third turn it decides, and a fourth is refused.
 fn later_turns(rt: &HostRuntime) -> io::Result<()> {
-    write(rt, "one board: its third turn, and its fourth\n")?;
-    let third = answer_after(1, NONE, proposal(), turn(), 2);
-    write_answer(rt, 4, third.number())?;
-    let fourth = answer_after(1, NONE, proposal(), turn(), 3);
-    write_answer(rt, 5, fourth.number())
+    println!(rt; "one board: its third turn, and its fourth")?;
+    let third = Refusal::number_of(answer_after(1, NONE, proposal(), turn(), 2));
+    println!(rt; "4 {third}")?;
+    let fourth = Refusal::number_of(answer_after(1, NONE, proposal(), turn(), 3));
+    println!(rt; "5 {fourth}")
 }
 
 fn main(rt: HostRuntime) -> io::Result<()> {

@@ -1,5 +1,5 @@
 -- `answer_after`: the bench after the turns that are left is the bench after all of them.
-use Rattle.std.proofs.Common.{◌≡◌, ◌≤◌, ◌-◌, ◌∷◌, replicate}
+use Rattle.std.proofs.Common.{◌≡◌, ◌-◌, ◌∷◌, replicate}
 use Rattle.delivery.specs.Limits.{limits}
 use Rattle.bench.specs.Setups.{fresh_bench}
 use Rattle.bench.specs.Runs.{after}
@@ -7,9 +7,5 @@ use Rattle.bench_example.proofs.answer_after.Given as goal
 
 abbrev pub invariant-loop-k : goal.invariant-loop-k
 invariant-loop-k l =
-    (l.k ≤ l.times)
-    × (after limits l.bench (replicate (l.times - l.k) l.again)
-    ≡ after limits (fresh_bench limits l.fn.n l.fn.marks) (l.fn.first ∷ replicate l.times l.again))
-
-abbrev pub decreases-loop-k : goal.decreases-loop-k
-decreases-loop-k l = l.times - l.k
+    after limits l.bench (replicate (l.times - l._k) l.again)
+    ≡ after limits (fresh_bench limits l.fn.n l.fn.marks) (l.fn.first ∷ replicate l.times l.again)
