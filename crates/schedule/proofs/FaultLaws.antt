@@ -3,16 +3,15 @@ use Prim.Native.Nat.{ℕ}
 use native.Mathlib.Omega.{arith}
 use mathlib.Core.Path.{◌≡◌, refl}
 use mathlib.Core.Logic.{◌⊎◌, inl, inr, ⊎_elim}
+use Rattle.std.specs.Prelude.{Result, Ok, Err}
 use Rattle.bench.specs.Answers.{fresh_number}
 use Rattle.bench.specs.declared.answer.FreshAnswer.{FreshAnswer}
 use Rattle.bench.specs.declared.answer.FreshAnswer.TheVariants as fresh
 use Rattle.bench.proofs.AnswerLaws.{fresh-within, fresh-made}
 use Rattle.schedule.specs.Files.{fault_number, file_number}
 use Rattle.schedule.specs.Demands.{IsFileRow}
-use Rattle.schedule.specs.declared.answer.Fault.{Fault}
-use Rattle.schedule.specs.declared.answer.Fault.TheVariants.{EndsEarly, NoBus, NoMark, TooMany, LeftOver}
-use Rattle.schedule.specs.declared.answer.FileAnswer.{FileAnswer}
-use Rattle.schedule.specs.declared.answer.FileAnswer.TheVariants.{Taken, Refused}
+use Rattle.schedule.specs.declared.fault.Fault.{Fault}
+use Rattle.schedule.specs.declared.fault.Fault.TheVariants.{EndsEarly, NoBus, NoMark, TooMany, LeftOver}
 
 -- the number of every fault is a row's; two are the bench's
 fresh-row : (a : FreshAnswer) → (a ≡ fresh.Made → ⊥) → IsFileRow (fresh_number a)
@@ -26,7 +25,7 @@ fault-row NoMark = fresh-row fresh.NoMark (λ e. let z : ◌≡◌ {A = ℕ} 0 1
 fault-row TooMany = (omega arith, omega arith)
 fault-row LeftOver = (omega arith, omega arith)
 
-pub file-row : (a : FileAnswer) → (a ≡ Taken) ⊎ IsFileRow (file_number a)
+pub file-row : (a : Result (Unit {0}) Fault) → (a ≡ Ok tt) ⊎ IsFileRow (file_number a)
 unfolding file_number
-file-row Taken = inl refl
-file-row (Refused w) = inr (fault-row w)
+file-row (Ok tt) = inl refl
+file-row (Err w) = inr (fault-row w)

@@ -1,11 +1,13 @@
 -- Laws of a whole file by its two sections, as the calls that read it make them out. Assumes nothing.
-use Prim.Native.Nat.{ℕ, suc, ◌+◌, ◌*◌, ◌<◌}
+use Prim.Native.Nat.{ℕ, suc, ◌+◌, ◌-◌, ◌*◌, ◌≤◌, ◌<◌}
 use native.Mathlib.Omega.{arith}
+use mir.Syntax.{w8}
+use mir.Val.{Fits}
 use mathlib.Core.Path.{◌≡◌, refl, sym, ap, subst, ◌∙◌}
 use mathlib.Core.List.{List, [], ◌∷◌, ◌++◌}
 use lib.ListN.{length, drop, get_or, length-append}
 use lib.Seq.{drop-append_seam}
-use Rattle.std.specs.Prelude.{if◌then◌else◌}
+use Rattle.std.specs.Prelude.{if◌then◌else◌, Result, Ok, Err}
 use Rattle.delivery.specs.Limits.{Limits}
 use Rattle.delivery.specs.Bus.{is_board}
 use Rattle.bench.specs.Events.{event_bytes}
@@ -23,22 +25,21 @@ use Rattle.schedule.specs.Files.{
   nothing_left,
   Contents,
   file_due,
-  answer_of,
 }
 use Rattle.schedule.specs.Layouts.{none, more, Bytes}
-use Rattle.schedule.specs.Readings.{padded, bus_from, bus_of, section_from, section_of}
-use Rattle.schedule.specs.declared.answer.Fault.{Fault}
-use Rattle.schedule.specs.declared.answer.Fault.TheVariants.{EndsEarly, NoBus, LeftOver}
-use Rattle.schedule.specs.declared.answer.FileAnswer.TheVariants.{Taken, Refused}
+use Rattle.schedule.specs.Readings.{padded, bus_from, bus_of, section_from, section_of, schedule_from, schedule_of}
+use Rattle.schedule.specs.declared.fault.Fault.{Fault}
+use Rattle.schedule.specs.declared.fault.Fault.TheVariants.{EndsEarly, NoBus, LeftOver}
 use Rattle.schedule.specs.declared.bus.Bus.{Bus}
-use Rattle.schedule.specs.declared.section.Section.TheVariants as section
-use Rattle.schedule.proofs.ReadingLaws.{answer-fault, next-got, next-fault}
+use Rattle.schedule.specs.declared.file.Schedule.{Schedule}
+use Rattle.schedule.specs.declared.section.Section.{Section}
+use Rattle.schedule.proofs.ReadingLaws.{next-got, next-fault}
 use Rattle.schedule.proofs.LayoutLaws.{bytes_rest, bus-laid, length-events-laid, section_laid, section-laid}
 
 -- what a slice holds is bytes
-pub bytes_of : (bs : List ℕ) → ((i : ℕ) → get_or bs i 0 < 256) → Bytes bs
+pub bytes_of : (bs : List ℕ) → ((i : ℕ) → Fits w8 (get_or bs i 0)) → Bytes bs
 bytes_of [] h = none
-bytes_of (b ∷ bs) h = more (h 0) (bytes_of bs (λ i. h (suc i)))
+bytes_of (b ∷ bs) h = more (omega (arith, h 0)) (bytes_of bs (λ i. h (suc i)))
 
 -- the first section begins with n, or there is nothing
 pub bus-none : (L : Limits) (bs : List ℕ) → length bs ≡ 0 → bus_due L bs ≡ fault EndsEarly
@@ -57,20 +58,20 @@ pub record BusRead (L : Limits) (bs : List ℕ) (b : Bus) : Type 0 where
   pub marks : List ℕ
   pub rest : List ℕ
   pub due : bus_due L bs ≡ got marks rest
-  pub read : b ≡ record { n = length marks; marks = padded L marks; answer = Taken }
+  pub read : b ≡ record { n = length marks; marks = padded L marks }
   pub size : length bs ≡ 1 + b.n + length rest
   pub part : drop (1 + b.n) bs ≡ rest
   pub bytes : Bytes rest
 
-pub bus-taken : (L : Limits) (bs : List ℕ) (b : Bus) → Bytes bs → b ≡ bus_of L bs → b.answer ≡ Taken → BusRead L bs b
+pub bus-taken : (L : Limits) (bs : List ℕ) (b : Bus) → Bytes bs → bus_of L bs ≡ Ok b → BusRead L bs b
 unfolding bus_from
-bus-taken L bs b u e t = go (bus_due L bs) refl (sym (ap (λ (x : Bus). x.answer) e) ∙ t)
+bus-taken L bs b u t = go (bus_due L bs) refl t
   where
-    go : (p : Reading (List ℕ)) → bus_due L bs ≡ p → (bus_from L p).answer ≡ Taken → BusRead L bs b
+    go : (p : Reading (List ℕ)) → bus_due L bs ≡ p → bus_from L p ≡ Ok b → BusRead L bs b
     go (fault w) g a = let z : ◌≡◌ {A = ℕ} 0 1 = cc in absurd (omega arith)
     go (got ms cs) g a =
         let whole : bs ≡ length ms ∷ ms ++ cs = (bus-laid L bs ms cs g).0 u in
-        let is : b ≡ record { n = length ms; marks = padded L ms; answer = Taken } = e ∙ ap (bus_from L) g in
+        let is : b ≡ record { n = length ms; marks = padded L ms } = cc in
         let n : 1 + b.n ≡ length (length ms ∷ ms) = ap (λ (x : Bus). 1 + x.n) is ∙ omega arith in
         record {
           marks = ms;
@@ -84,13 +85,13 @@ bus-taken L bs b u e t = go (bus_due L bs) refl (sym (ap (λ (x : Bus). x.answer
           bytes = bytes_rest (length ms ∷ ms) cs (subst Bytes whole u);
         }
 
-pub bus-refused : (L : Limits) (bs : List ℕ) (w : Fault) → (bus_of L bs).answer ≡ Refused w → bus_due L bs ≡ fault w
-unfolding bus_from answer_of
-bus-refused L bs w t = answer-fault (bus_due L bs) w (sym (bus-answer (bus_due L bs)) ∙ t)
+pub bus-refused : (L : Limits) (bs : List ℕ) (w : Fault) → bus_of L bs ≡ Err w → bus_due L bs ≡ fault w
+unfolding bus_from
+bus-refused L bs w t = go (bus_due L bs) t
   where
-    bus-answer : (p : Reading (List ℕ)) → (bus_from L p).answer ≡ answer_of p
-    bus-answer (got ms cs) = refl
-    bus-answer (fault v) = refl
+    go : (p : Reading (List ℕ)) → bus_from L p ≡ Err w → p ≡ fault w
+    go (got ms cs) a = let z : ◌≡◌ {A = ℕ} 0 1 = cc in absurd (omega arith)
+    go (fault v) a = let same : v ≡ w = cc in ap fault same
 
 -- the second, where it was read: its events, and what follows them
 pub record SectionRead (bs : List ℕ) (k : ℕ) : Type 0 where
@@ -100,15 +101,16 @@ pub record SectionRead (bs : List ℕ) (k : ℕ) : Type 0 where
   pub count : length events ≡ k
   pub size : length bs ≡ count_bytes + event_bytes * k + length rest
 
-pub section-taken : (bs : List ℕ) (k : ℕ) → Bytes bs → section_of bs ≡ section.Events k → SectionRead bs k
+pub section-taken : (bs : List ℕ) (s : Section) → Bytes bs → section_of bs ≡ Ok s → SectionRead bs s.count
 unfolding section_from
-section-taken bs k u t = go (section_due bs) refl t
+section-taken bs s u t = go (section_due bs) refl t
   where
-    go : (p : Reading (List Event)) → section_due bs ≡ p → section_from p ≡ section.Events k → SectionRead bs k
+    go : (p : Reading (List Event)) → section_due bs ≡ p → section_from p ≡ Ok s → SectionRead bs s.count
     go (fault w) g a = let z : ◌≡◌ {A = ℕ} 0 1 = cc in absurd (omega arith)
     go (got es cs) g a =
         let whole : bs ≡ section_laid es ++ cs = (section-laid bs es cs g).0 u in
-        let count : length es ≡ k = cc in
+        let is : s ≡ record { count = length es } = cc in
+        let count : length es ≡ s.count = sym (ap (λ (x : Section). x.count) is) in
         record {
           events = es;
           rest = cs;
@@ -117,11 +119,11 @@ section-taken bs k u t = go (section_due bs) refl t
           size = omega (arith, ap length whole, length-append (section_laid es) cs, length-events-laid es);
         }
 
-pub section-refused : (bs : List ℕ) (w : Fault) → section_of bs ≡ section.Refused w → section_due bs ≡ fault w
+pub section-refused : (bs : List ℕ) (w : Fault) → section_of bs ≡ Err w → section_due bs ≡ fault w
 unfolding section_from
 section-refused bs w t = go (section_due bs) t
   where
-    go : (p : Reading (List Event)) → section_from p ≡ section.Refused w → p ≡ fault w
+    go : (p : Reading (List Event)) → section_from p ≡ Err w → p ≡ fault w
     go (got es cs) a = let z : ◌≡◌ {A = ℕ} 0 1 = cc in absurd (omega arith)
     go (fault v) a = let same : v ≡ w = cc in ap fault same
 
@@ -157,3 +159,51 @@ module _ (L : Limits) (bs ms cs : List ℕ) (e : bus_due L bs ≡ got ms cs) whe
 
     pub file-there : length ds ≡ 0 → file_due L bs ≡ got (record { marks = ms; events = es }) []
     file-there h = ends ∙ left-none (record { marks = ms; events = es }) ds h
+
+-- a file of two sections that were read
+abbrev made : Bus → ℕ → Result Schedule Fault
+made b k = Ok (record { n = b.n; marks = b.marks; count = k; start = 1 + b.n + count_bytes })
+
+-- So it is with the calls that read a file: a fault of the first section is the file's,
+pub schedule-front : (L : Limits) (bs : List ℕ) (w : Fault) → bus_of L bs ≡ Err w → schedule_of L bs ≡ Err w
+unfolding schedule_from
+schedule-front L bs w e = ap (schedule_from L) (file-front L bs w (bus-refused L bs w e))
+
+-- and where there is a first section, the second begins within the file;
+module _ (L : Limits) (bs : List ℕ) (b : Bus) (u : (i : ℕ) → Fits w8 (get_or bs i 0)) (e : bus_of L bs ≡ Ok b) where
+  front : BusRead L bs b
+  front = bus-taken L bs b (bytes_of bs u) e
+
+  pub section-within : 1 + b.n ≤ length bs
+  section-within = omega (arith, front.size)
+
+  -- a fault of it is the file's;
+  pub schedule-back : (w : Fault) → section_of (drop (1 + b.n) bs) ≡ Err w → schedule_of L bs ≡ Err w
+  unfolding schedule_from
+  schedule-back w g =
+      let due = section-refused front.rest w (ap section_of (sym front.part) ∙ g) in
+      ap (schedule_from L) (file-back L bs front.marks front.rest front.due w due)
+
+  -- where there is a second section too, its events begin within the file;
+  module _ (s : Section) (g : section_of (drop (1 + b.n) bs) ≡ Ok s) where
+    back : SectionRead front.rest s.count
+    back = section-taken front.rest s front.bytes (ap section_of (sym front.part) ∙ g)
+
+    pub events-within : 1 + b.n + count_bytes ≤ length bs
+    events-within = omega (arith, front.size, back.size)
+
+    -- and bytes are left over, or none
+    pub schedule-over : event_bytes * s.count < length bs - (1 + b.n + count_bytes) → schedule_of L bs ≡ Err LeftOver
+    unfolding schedule_from
+    schedule-over h =
+        let over : 0 < length back.rest = omega (arith, front.size, back.size, h) in
+        ap (schedule_from L) (file-over L bs front.marks front.rest front.due back.events back.rest back.due over)
+
+    pub schedule-there : length bs - (1 + b.n + count_bytes) ≤ event_bytes * s.count
+        → schedule_of L bs ≡ Ok (record { n = b.n; marks = b.marks; count = s.count; start = 1 + b.n + count_bytes })
+    unfolding schedule_from
+    schedule-there h =
+        let none : length back.rest ≡ 0 = omega (arith, front.size, back.size, h) in
+        ap (schedule_from L) (file-there L bs front.marks front.rest front.due back.events back.rest back.due none)
+        ∙ ap (made (record { n = length front.marks; marks = padded L front.marks })) back.count
+        ∙ sym (ap (λ (x : Bus). made x s.count) front.read)

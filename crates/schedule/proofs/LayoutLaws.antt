@@ -36,8 +36,8 @@ use Rattle.schedule.specs.Files.{
   file_due,
 }
 use Rattle.schedule.specs.Layouts.{two_bytes, event_laid, laid, All, none, more, Bytes, Holdable}
-use Rattle.schedule.specs.declared.answer.Fault.{Fault}
-use Rattle.schedule.specs.declared.answer.Fault.TheVariants.{EndsEarly, NoBus, NoMark, TooMany, LeftOver}
+use Rattle.schedule.specs.declared.fault.Fault.{Fault}
+use Rattle.schedule.specs.declared.fault.Fault.TheVariants.{EndsEarly, NoBus, NoMark, TooMany, LeftOver}
 use Rattle.schedule.proofs.ReadingLaws.{got-no-fault, got-rest, got-value, next-got, Went, went, stopped, next-went}
 
 -- what is left of bytes is bytes

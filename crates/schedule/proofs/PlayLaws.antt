@@ -1,11 +1,14 @@
 -- Laws of a file that was read and is played: the events that the player is handed, and the bench and the answers that it
 -- gives. Assumes nothing.
-use Prim.Native.Nat.{ℕ, zero, suc, ◌+◌, ◌-◌, ◌*◌, ◌≤◌, ◌<◌}
+use Prim.Native.Nat.{ℕ, zero, suc, ◌+◌, ◌-◌, ◌*◌, ◌≤◌}
 use native.Mathlib.Omega.{arith}
+use mir.Syntax.{w8}
+use mir.Val.{Fits}
 use mathlib.Core.Path.{◌≡◌, refl, sym, ap, ◌∙◌}
 use mathlib.Core.List.{List, [], ◌∷◌, ◌++◌, flat_map, append-nil}
 use lib.ListN.{length, take, drop, get_or, replicate, length-append}
 use lib.Seq.{take_all, drop-append_seam}
+use Rattle.std.specs.Prelude.{Ok, Err}
 use Rattle.signer.specs.FromOne.{nth}
 use Rattle.signer.proofs.FromOneLaws.{within-high, nth-index, nth-none}
 use Rattle.delivery.specs.Limits.{Limits}
@@ -16,14 +19,13 @@ use Rattle.bench.specs.declared.bench.Bench.{Bench}
 use Rattle.bench.specs.declared.event.Event.{Event}
 use Rattle.bench.proofs.SetupLaws.{fresh-alike}
 use Rattle.bench.proofs.RunLaws.{length-answers, played-bench, played-answers, nth-written}
-use Rattle.schedule.specs.Files.{Reading, got, fault, count_bytes, most_events, events_due, Contents, first_bench, file_due, answer_of}
+use Rattle.schedule.specs.Files.{Reading, got, fault, count_bytes, most_events, events_due, Contents, first_bench, file_due}
 use Rattle.schedule.specs.Layouts.{two_bytes, event_laid, laid, Holdable}
-use Rattle.schedule.specs.Readings.{padded, schedule_from, schedule_of}
+use Rattle.schedule.specs.Readings.{padded, schedule_in, schedule_from, schedule_of}
 use Rattle.schedule.specs.Prints.{event_line, event_lines, board_lines, refused_line, printed_from, printed}
-use Rattle.schedule.specs.declared.answer.Fault.{Fault}
-use Rattle.schedule.specs.declared.answer.FileAnswer.TheVariants.{Taken, Refused}
+use Rattle.schedule.specs.declared.fault.Fault.{Fault}
 use Rattle.schedule.specs.declared.file.Schedule.{Schedule}
-use Rattle.schedule.proofs.ReadingLaws.{got-value, answer-fault}
+use Rattle.schedule.proofs.ReadingLaws.{got-value}
 use Rattle.schedule.proofs.LayoutLaws.{length-events-laid, events-flat-read, file-laid}
 use Rattle.schedule.proofs.SectionLaws.{events-there}
 use Rattle.schedule.proofs.FileLaws.{bytes_of}
@@ -65,50 +67,47 @@ pub record FileRead (L : Limits) (bs : List ℕ) (s : Schedule) : Type 0 where
   pub file : Contents
   pub rest : List ℕ
   pub due : file_due L bs ≡ got file rest
-  pub read : s ≡ schedule_from L (got file rest)
+  pub read : s ≡ schedule_in L file
   pub holds : Holdable L file
   pub whole : bs ≡ laid file
 
-pub file-taken : (L : Limits) (bs : List ℕ) (s : Schedule) → ((i : ℕ) → get_or bs i 0 < 256) → s ≡ schedule_of L bs → s.answer ≡ Taken → FileRead L bs s
+pub file-taken : (L : Limits) (bs : List ℕ) (s : Schedule) → ((i : ℕ) → Fits w8 (get_or bs i 0)) → schedule_of L bs ≡ Ok s → FileRead L bs s
 unfolding schedule_from
-file-taken L bs s u e t = go (file_due L bs) refl (sym (ap (λ (x : Schedule). x.answer) e) ∙ t)
+file-taken L bs s u t = go (file_due L bs) refl t
   where
-    go : (p : Reading Contents) → file_due L bs ≡ p → (schedule_from L p).answer ≡ Taken → FileRead L bs s
+    go : (p : Reading Contents) → file_due L bs ≡ p → schedule_from L p ≡ Ok s → FileRead L bs s
     go (fault w) g a = let z : ◌≡◌ {A = ℕ} 0 1 = cc in absurd (omega arith)
     go (got f cs) g a =
         let l = file-laid L bs f cs g in
-        record { file = f; rest = cs; due = g; read = e ∙ ap (schedule_from L) g; holds = l.1; whole = l.0 (bytes_of bs u) }
+        let is : s ≡ schedule_in L f = cc in
+        record { file = f; rest = cs; due = g; read = is; holds = l.1; whole = l.0 (bytes_of bs u) }
 
 -- or it was refused, and then has nothing to play, and prints a line
 pub refused-print : (L : Limits) (bs : List ℕ) (w : Fault) → file_due L bs ≡ fault w
-    → ((schedule_of L bs).count ≡ 0) × (printed L bs ≡ refused_line w)
+    → (schedule_of L bs ≡ Err w) × (printed L bs ≡ refused_line w)
 unfolding schedule_from printed_from
-refused-print L bs w e = (ap (λ (p : Reading Contents). (schedule_from L p).count) e, ap (printed_from L) e)
+refused-print L bs w e = (ap (schedule_from L) e, ap (printed_from L) e)
 
-pub file-fault : (L : Limits) (bs : List ℕ) (w : Fault) → (schedule_of L bs).answer ≡ Refused w → file_due L bs ≡ fault w
-unfolding schedule_from answer_of
-file-fault L bs w t = answer-fault (file_due L bs) w (sym (file-answer (file_due L bs)) ∙ t)
+pub file-fault : (L : Limits) (bs : List ℕ) (w : Fault) → schedule_of L bs ≡ Err w → file_due L bs ≡ fault w
+unfolding schedule_from
+file-fault L bs w t = go (file_due L bs) t
   where
-    file-answer : (p : Reading Contents) → (schedule_from L p).answer ≡ answer_of p
-    file-answer (got f cs) = refl
-    file-answer (fault v) = refl
+    go : (p : Reading Contents) → schedule_from L p ≡ Err w → p ≡ fault w
+    go (got f cs) a = let z : ◌≡◌ {A = ℕ} 0 1 = cc in absurd (omega arith)
+    go (fault v) a = let same : v ≡ w = cc in ap fault same
 
 -- A file that was read: n, the marks and the count are its own, and within what there can be.
 module _ (L : Limits) (bs : List ℕ) (s : Schedule) (h : FileRead L bs s) where
   n-own : s.n ≡ length h.file.marks
-  unfolding schedule_from
   n-own = ap (λ (x : Schedule). x.n) h.read
 
   marks-own : s.marks ≡ padded L h.file.marks
-  unfolding schedule_from
   marks-own = ap (λ (x : Schedule). x.marks) h.read
 
   count-own : s.count ≡ length h.file.events
-  unfolding schedule_from
   count-own = ap (λ (x : Schedule). x.count) h.read
 
   start-own : s.start ≡ 1 + length h.file.marks + count_bytes
-  unfolding schedule_from
   start-own = ap (λ (x : Schedule). x.start) h.read
 
   pub few-boards : s.n ≤ L.boards

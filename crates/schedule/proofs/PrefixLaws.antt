@@ -39,8 +39,8 @@ use Rattle.schedule.specs.Files.{
   file_due,
   longest_file,
 }
-use Rattle.schedule.specs.declared.answer.Fault.{Fault}
-use Rattle.schedule.specs.declared.answer.Fault.TheVariants.{EndsEarly, NoBus, NoMark, TooMany}
+use Rattle.schedule.specs.declared.fault.Fault.{Fault}
+use Rattle.schedule.specs.declared.fault.Fault.TheVariants.{EndsEarly, NoBus, NoMark, TooMany}
 use Rattle.schedule.proofs.LayoutLaws.{count-went}
 use Rattle.schedule.proofs.ReadingLaws.{got-no-fault, got-rest, got-value, fault-value, next-got, next-fault, next-next, Steady, steady-wider, steady-got, steady-fault, steady-byte, steady-next, steady-if, steady-many}
 

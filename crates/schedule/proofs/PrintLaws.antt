@@ -7,20 +7,21 @@ use native.Mathlib.Decide.{dec_lt}
 use mir.Syntax.{w8, w16}
 use mir.Val.{Fits}
 use borrow.Author.Tests.{leb-true, ltb-false, lt-ltb, le-ltb, le-leb, lt-leb}
-use mathlib.Core.Path.{◌≡◌, refl, sym, ap, ◌∙◌}
-use mathlib.Core.List.{List, [], ◌∷◌, ◌++◌}
+use mathlib.Core.Path.{◌≡◌, refl, sym, ap, subst, ◌∙◌}
+use mathlib.Core.List.{List, [], ◌∷◌, ◌++◌, append_assoc}
 use lib.Dec.{leb, ltb}
-use lib.ListN.{length, set, length-append}
+use lib.ListN.{length, take, get_or, set, length-append}
+use Rattle.std.proofs.lemmas.List.{take_more}
 use lib.Seq.{sets, length-sets}
+use Rattle.std.specs.Prelude.{Result, Ok, Err}
 use Rattle.signer.proofs.ConditionalLaws.{if-elim, if-true, if-false}
 use Rattle.delivery.specs.Limits.{limits}
 use Rattle.bench.specs.declared.show.Shown.{Shown}
 use Rattle.bench.proofs.RunLaws.{sets-written}
 use Rattle.schedule.specs.Files.{most_events, fault_number}
 use Rattle.schedule.specs.Prints.{digit, decimal_in, decimal, parts_to, event_line, board_line, refused_line, report_from, buffer_from, PutAt, event_line_bytes, board_line_bytes, longest_print}
-use Rattle.schedule.specs.declared.answer.Fault.{Fault}
-use Rattle.schedule.specs.declared.report.Report.{Report}
-use Rattle.schedule.specs.declared.report.Report.TheVariants.{Written, Short}
+use Rattle.schedule.specs.declared.fault.Fault.{Fault}
+use Rattle.schedule.specs.declared.report.TooShort.{TooShort}
 use Rattle.schedule.proofs.FaultLaws.{fault-row}
 
 -- writing one text and then another is writing both as one
@@ -50,6 +51,11 @@ put_then {xs} {ys} {buf} {buf'} {buf''} {at} {r} {r'} p q = record {
       ∙ ap (λ (j : ℕ). sets (sets buf at xs) j ys) p.place
       ∙ sets-append xs ys buf at;
 }
+
+-- where the first bytes of a text were put, and then the next, one more is put
+pub put_more : {buf buf' buf'' : List ℕ} {at r r' : ℕ} (text : List ℕ) (k : ℕ) → k < length text
+    → PutAt (take k text) buf at buf' r → PutAt (get_or text k 0 ∷ []) buf' r buf'' r' → PutAt (take (k + 1) text) buf at buf'' r'
+put_more text k there p q = rw (take_more text k 0 there) (put_then p q)
 
 -- the buffer is as long as it was
 pub put-length : {xs buf buf' : List ℕ} {at r : ℕ} → PutAt xs buf at buf' r → length buf' ≡ length buf
@@ -134,6 +140,13 @@ pub parts_next : {buf buf' buf'' : List ℕ} {at r r' : ℕ} (f : ℕ → List �
 unfolding parts_to
 parts_next f k p q = rw (add-one k) (put_then p (rw (add-one k) at q))
 
+-- the same after another text
+pub parts_then : {buf buf' buf'' : List ℕ} {at r r' : ℕ} (xs : List ℕ) (f : ℕ → List ℕ) (k j : ℕ) → k ≡ j + 1
+    → PutAt (xs ++ parts_to j f) buf at buf' r → PutAt (f k) buf' r buf'' r' → PutAt (xs ++ parts_to k f) buf at buf'' r'
+unfolding parts_to
+parts_then {buf} {buf'' = buf''} {at} {r' = r'} xs f k j e p q =
+    rw (e, add-one j) (subst (λ (ys : List ℕ). PutAt ys buf at buf'' r') (append_assoc xs (parts_to j f) (f (suc j))) (put_then p (rw (e, add-one j) at q)))
+
 -- parts that are alike, one after another, are one text
 pub parts_same : (n : ℕ) (f g : ℕ → List ℕ) → ((k : ℕ) → 1 ≤ k → k ≤ n → f k ≡ g k) → parts_to n f ≡ parts_to n g
 unfolding parts_to
@@ -170,48 +183,48 @@ module _ (buf : List ℕ) {text none : List ℕ} {r : ℕ} (p : PutAt text [] 0 
   still = ap (λ (b : List ℕ). b ++ buf) (p.bytes ∙ sets-nowhere text 0)
 
   pub report-short : length (none ++ buf) < r
-      → (Short r ≡ report_from text (length buf)) × (none ++ buf ≡ buffer_from text buf)
+      → (Err (record { needed = r }) ≡ report_from text (length buf)) × (none ++ buf ≡ buffer_from text buf)
   unfolding report_from
   report-short h =
       let few : length buf < length text = omega (arith, text-length, ap length still) in
-      (ap Short text-length ∙ sym (if-false _ _ _ (lt-leb (length text) (length buf) few)), still ∙ buffer-short text buf few)
+      (ap (λ (n : ℕ). Err (record { needed = n })) text-length ∙ sym (if-false _ _ _ (lt-leb (length text) (length buf) few)), still ∙ buffer-short text buf few)
 
   pub report-written : {buf' : List ℕ} {r' : ℕ} → r ≤ length (none ++ buf) → PutAt text (none ++ buf) 0 buf' r'
-      → (Written r ≡ report_from text (length buf)) × (buf' ≡ buffer_from text buf)
+      → (Ok r ≡ report_from text (length buf)) × (buf' ≡ buffer_from text buf)
   unfolding report_from
   report-written h q =
       let fits : length text ≤ length buf = omega (arith, text-length, ap length still) in
-      (ap Written text-length ∙ sym (if-true _ _ _ (le-leb (length text) (length buf) fits)), buffer-written fits (rw still at q))
+      (ap Ok text-length ∙ sym (if-true _ _ _ (le-leb (length text) (length buf) fits)), buffer-written fits (rw still at q))
 
 -- either way a report tells the length
-pub told-written : (text : List ℕ) (room r : ℕ) → Written r ≡ report_from text room → r ≡ length text
+pub told-written : (text : List ℕ) (room r : ℕ) → Ok r ≡ report_from text room → r ≡ length text
 unfolding report_from
 told-written text room r =
     if-elim
-    (λ (x : Report). Written r ≡ x → r ≡ length text)
+    (λ (x : Result ℕ TooShort). Ok r ≡ x → r ≡ length text)
     (leb (length text) room)
     _
     _
     (λ t e. cc)
     (λ f e. let z : ◌≡◌ {A = ℕ} 0 1 = cc in absurd (omega arith))
 
-pub told-short : (text : List ℕ) (room r : ℕ) → Short r ≡ report_from text room → r ≡ length text
+pub told-short : (text : List ℕ) (room : ℕ) (r : TooShort) → Err r ≡ report_from text room → r.needed ≡ length text
 unfolding report_from
 told-short text room r =
     if-elim
-    (λ (x : Report). Short r ≡ x → r ≡ length text)
+    (λ (x : Result ℕ TooShort). Err r ≡ x → r.needed ≡ length text)
     (leb (length text) room)
     _
     _
     (λ t e. let z : ◌≡◌ {A = ℕ} 0 1 = cc in absurd (omega arith))
-    (λ f e. cc)
+    (λ f e. let same : r ≡ record { needed = length text } = cc in ap (λ (x : TooShort). x.needed) same)
 
 -- what was written is no more than there is room for
-pub written-within : (text : List ℕ) (room r : ℕ) → Written r ≡ report_from text room → r ≤ room
+pub written-within : (text : List ℕ) (room r : ℕ) → Ok r ≡ report_from text room → r ≤ room
 unfolding report_from
 written-within text room r =
     if-elim
-    (λ (x : Report). Written r ≡ x → r ≤ room)
+    (λ (x : Result ℕ TooShort). Ok r ≡ x → r ≤ room)
     (leb (length text) room)
     _
     _

@@ -7,13 +7,12 @@ use mathlib.Core.Bool.{Bool, true, false, true≢false}
 use mathlib.Core.List.{List, [], ◌∷◌, ◌++◌}
 use mathlib.Core.Logic.{◌⊎◌, inl, inr, ⊎_elim}
 use lib.ListN.{length}
-use Rattle.std.specs.Prelude.{if◌then◌else◌}
+use Rattle.std.specs.Prelude.{if◌then◌else◌, Err}
 use Rattle.signer.proofs.ConditionalLaws.{if-true, if-false}
 use Rattle.delivery.proofs.TestLaws.{decided}
 use Rattle.schedule.specs.Files.{Reading, got, fault, next, byte_due, many_due, answer_of}
-use Rattle.schedule.specs.declared.answer.Fault.{Fault}
-use Rattle.schedule.specs.declared.answer.Fault.TheVariants.{EndsEarly}
-use Rattle.schedule.specs.declared.answer.FileAnswer.TheVariants.{Refused}
+use Rattle.schedule.specs.declared.fault.Fault.{Fault}
+use Rattle.schedule.specs.declared.fault.Fault.TheVariants.{EndsEarly}
 
 -- something that was read is no fault, and two that are equal have equal parts
 pub got-no-fault : {A : Type 0} (x : A) (bs : List ℕ) (w : Fault) → got x bs ≡ fault w → ⊥
@@ -45,7 +44,7 @@ fault-value {A} w v e = ap value e
     value (fault u) = u
 
 -- what was refused met that fault
-pub answer-fault : {A : Type 0} (p : Reading A) (w : Fault) → answer_of p ≡ Refused w → p ≡ fault w
+pub answer-fault : {A : Type 0} (p : Reading A) (w : Fault) → answer_of p ≡ Err w → p ≡ fault w
 unfolding answer_of
 answer-fault (got x bs) w e = let z : ◌≡◌ {A = ℕ} 0 1 = cc in absurd (omega arith)
 answer-fault (fault v) w e = let same : v ≡ w = cc in ap fault same

@@ -1,5 +1,5 @@
 -- For each function, the laws that its proof goes by.
-use Rattle.schedule.proofs.FileLaws.{bus-none, bus-refused, bus-some, bus-taken, bytes_of, file-back, file-front, file-over, file-there, section-refused, section-taken}
+use Rattle.schedule.proofs.FileLaws.{bus-none, bus-some, schedule-front, section-within, schedule-back, events-within, schedule-over, schedule-there}
 use Rattle.schedule.proofs.PlayLaws.{few-boards, few-events, file-fault, file-taken, print-played, refused-print, start-within}
 use Rattle.schedule.proofs.PrintLaws.{board-length, board-within, decimal-more, decimal-one, digits-within, event-length, event-within, length_more, parts_next, parts_none, put-length, put-none, put_then, refused-within, report-short, report-written}
 use Rattle.schedule.proofs.SectionLaws.{marks-cut, marks-end, marks-next, marks-start, marks-wrong, marks_left, padded-next, section-cut, section-many, section-short, section-there}
@@ -10,21 +10,15 @@ pub ruleset rules_bus_bus_read = (if-true, if-false, within-high, bus-none, bus-
 
 pub ruleset rules_bus_bus_read_marks = (marks_left, marks-start, marks-end, marks-cut, marks-wrong, marks-next, padded-next)
 
-pub ruleset rules_file_schedule_read = (bus-refused, file-front)
+pub ruleset rules_file_schedule_read = (schedule-front, section-within, schedule-back, events-within, schedule-over, schedule-there)
 
-pub ruleset rules_file_schedule_read_events = (bytes_of, bus-taken, section-taken, section-refused, file-back, file-over, file-there)
+pub ruleset rules_report_report_lines = (nth_after, put-length, event-within, board-within, parts_none, parts_next, put_then)
 
-pub ruleset rules_report_report_write = (refused-print, file-fault)
+pub ruleset rules_report_report_of = (refused-print, file-fault, file-taken, few-boards, few-events, start-within, print-played)
 
-pub ruleset rules_report_board_lines = (put-length, board-within, parts_none, parts_next)
+pub ruleset rules_report_report_put = (refused-within)
 
-pub ruleset rules_report_event_lines = (nth_after, put-length, event-within, parts_none, parts_next)
-
-pub ruleset rules_report_lines = (put_then)
-
-pub ruleset rules_report_report_played = (report-short, report-written, file-taken, few-boards, few-events, start-within, print-played)
-
-pub ruleset rules_report_report_refused = (refused-within, report-short, report-written)
+pub ruleset rules_report_report_write = (report-short, report-written)
 
 pub ruleset rules_section_section_read = (section-cut, section-many, section-short, section-there)
 

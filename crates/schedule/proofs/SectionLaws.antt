@@ -11,7 +11,7 @@ use mathlib.Core.List.{List, [], ◌∷◌, ◌++◌, append_assoc, append-nil}
 use lib.Dec.{leb}
 use lib.ListN.{length, take, drop, get_or, set, replicate, length-drop, drop_of_length-le}
 use lib.Seq.{length-take-le, take-suc, drop-cons, drop-drop, set_at}
-use Rattle.std.specs.Prelude.{if◌then◌else◌}
+use Rattle.std.specs.Prelude.{if◌then◌else◌, Result, Ok, Err}
 use Rattle.signer.proofs.ConditionalLaws.{if-true, if-false}
 use Rattle.delivery.specs.Limits.{Limits}
 use Rattle.bench.specs.Events.{high_first, event_bytes, event_from}
@@ -36,9 +36,9 @@ use Rattle.schedule.specs.Files.{
   section_due,
 }
 use Rattle.schedule.specs.Readings.{padded, section_from, section_of}
-use Rattle.schedule.specs.declared.answer.Fault.{Fault}
-use Rattle.schedule.specs.declared.answer.Fault.TheVariants.{EndsEarly, NoMark, TooMany}
-use Rattle.schedule.specs.declared.section.Section.TheVariants as section
+use Rattle.schedule.specs.declared.fault.Fault.{Fault}
+use Rattle.schedule.specs.declared.fault.Fault.TheVariants.{EndsEarly, NoMark, TooMany}
+use Rattle.schedule.specs.declared.section.Section.{Section}
 use Rattle.schedule.proofs.ReadingLaws.{next-got, next-fault, next-next, next-same, many-goes, many-stops}
 use Rattle.schedule.proofs.LayoutLaws.{mark-undoes}
 
@@ -139,6 +139,9 @@ events-cut (suc k) bs h = go (dec_le event_bytes (length bs)) (λ l. events-cut 
         let short : length bs < event_bytes = omega arith in
         many-stops event_due k bs EndsEarly (if-false (leb event_bytes (length bs)) _ _ (lt-leb event_bytes (length bs) short))
 
+abbrev section_counts : ℕ → Result Section Fault
+section_counts k = Ok (record { count = k })
+
 -- the count at the front of some bytes
 abbrev pub count_at : List ℕ → ℕ
 count_at bs = high_first (get_or bs 0 0) (get_or bs 1 0)
@@ -157,13 +160,13 @@ count-there (b ∷ []) h = absurd (omega arith)
 count-there (b ∷ c ∷ bs) h = refl
 
 -- The section of events, by the tests that `Section::read` makes: it is too short for a count;
-pub section-cut : (bs : List ℕ) → length bs < count_bytes → section_of bs ≡ section.Refused EndsEarly
+pub section-cut : (bs : List ℕ) → length bs < count_bytes → section_of bs ≡ Err EndsEarly
 unfolding section_due section_from
 section-cut bs h = ap section_from (next-fault events_due (count_due bs) EndsEarly (count_cut bs h))
 
 module _ (bs : List ℕ) (h : count_bytes ≤ length bs) where
   -- it counts too many;
-  pub section-many : most_events < count_at bs → section_of bs ≡ section.Refused TooMany
+  pub section-many : most_events < count_at bs → section_of bs ≡ Err TooMany
   unfolding section_due section_from
   section-many t =
       ap
@@ -186,13 +189,13 @@ module _ (bs : List ℕ) (h : count_bytes ≤ length bs) where
         (count-there bs h ∙ if-true (leb (count_at bs) most_events) _ _ (le-leb (count_at bs) most_events t))
 
     -- it is too short for its events;
-    pub section-short : length bs < count_bytes + event_bytes * count_at bs → section_of bs ≡ section.Refused EndsEarly
+    pub section-short : length bs < count_bytes + event_bytes * count_at bs → section_of bs ≡ Err EndsEarly
     unfolding section_from
     section-short l = ap section_from (few ∙ events-cut (count_at bs) (drop count_bytes bs) (omega (arith, length-drop count_bytes bs)))
 
     -- or they are there
-    pub section-there : count_bytes + event_bytes * count_at bs ≤ length bs → section_of bs ≡ section.Events (count_at bs)
+    pub section-there : count_bytes + event_bytes * count_at bs ≤ length bs → section_of bs ≡ Ok (record { count = count_at bs })
     unfolding section_from
     section-there l =
         ap section_from (few ∙ events-there (count_at bs) (drop count_bytes bs) (omega (arith, length-drop count_bytes bs)))
-        ∙ ap section.Events (length-events (count_at bs) (drop count_bytes bs))
+        ∙ ap (λ (k : ℕ). section_counts k) (length-events (count_at bs) (drop count_bytes bs))

@@ -1,5 +1,5 @@
 -- Demands 1 and 2, for files. proofs/Demands shows both.
-use Rattle.std.specs.Prelude.{ℕ, ◌+◌, ◌≤◌, ◌<◌, ◌≡◌, List, [], ◌⊎◌, length, take}
+use Rattle.std.specs.Prelude.{ℕ, ◌+◌, ◌≤◌, ◌<◌, ◌≡◌, List, [], ◌⊎◌, length, take, Ok, Err}
 use Rattle.delivery.specs.Limits.{limits}
 use Rattle.bench.specs.Setups.{fresh_answer}
 use Rattle.bench.specs.declared.answer.FreshAnswer.TheVariants.{Made}
@@ -7,8 +7,7 @@ use Rattle.schedule.specs.Files.{file_number, got, Contents, file_due, answer_of
 use Rattle.schedule.specs.Layouts.{laid, Bytes, Holdable}
 use Rattle.schedule.specs.Readings.{schedule_of}
 use Rattle.schedule.specs.Prints.{refused_line, printed}
-use Rattle.schedule.specs.declared.answer.Fault.{Fault}
-use Rattle.schedule.specs.declared.answer.FileAnswer.TheVariants.{Taken, Refused}
+use Rattle.schedule.specs.declared.fault.Fault.{Fault}
 
 -- Demand 1: every file is taken, which is answer 0, or answered with the number of one of the table's rows for files; and
 -- it ends in a report. One that is refused has nothing to play, and its report is one line. One that is taken never fails
@@ -18,10 +17,10 @@ abbrev pub IsFileRow : ℕ → Type 0
 IsFileRow m = (1 ≤ m) × (m ≤ 5)
 
 pub record Demand1 : Type 0 where
-  pub answered : (bs : List ℕ) → let a = answer_of (file_due limits bs) in (a ≡ Taken) ⊎ IsFileRow (file_number a)
+  pub answered : (bs : List ℕ) → let a = answer_of (file_due limits bs) in (a ≡ Ok tt) ⊎ IsFileRow (file_number a)
   pub reported : (bs : List ℕ) → 0 < length (printed limits bs)
-  pub refused : (bs : List ℕ) (w : Fault) → answer_of (file_due limits bs) ≡ Refused w
-      → ((schedule_of limits bs).count ≡ 0) × (printed limits bs ≡ refused_line w)
+  pub refused : (bs : List ℕ) (w : Fault) → answer_of (file_due limits bs) ≡ Err w
+      → (schedule_of limits bs ≡ Err w) × (printed limits bs ≡ refused_line w)
   pub made : (bs : List ℕ) (f : Contents) (rest : List ℕ) → file_due limits bs ≡ got f rest
       → fresh_answer limits (length f.marks) f.marks ≡ Made
   pub any-length : (bs : List ℕ) → file_due limits (take (longest_file limits + 1) bs) ≡ file_due limits bs

@@ -1,6 +1,6 @@
 -- Document 01, "Where an event or file stops" and "Schedule file and program": what the bytes of a file mean. A file is
 -- read from the front, and the first fault that is met is its answer.
-use Rattle.std.specs.Prelude.{ℕ, zero, suc, ◌+◌, ◌*◌, List, [], ◌∷◌, leb, length, drop}
+use Rattle.std.specs.Prelude.{ℕ, zero, suc, ◌+◌, ◌*◌, List, [], ◌∷◌, leb, length, drop, Result, Ok, Err}
 use Rattle.std.specs.Prelude.{if◌then◌else◌}
 use Rattle.delivery.specs.Limits.{Limits}
 use Rattle.delivery.specs.Bus.{is_board}
@@ -10,10 +10,8 @@ use Rattle.bench.specs.Answers.{fresh_number}
 use Rattle.bench.specs.declared.bench.Bench.{Bench}
 use Rattle.bench.specs.declared.event.Event.{Event}
 use Rattle.bench.specs.declared.answer.FreshAnswer.TheVariants as fresh
-use Rattle.schedule.specs.declared.answer.Fault.{Fault}
-use Rattle.schedule.specs.declared.answer.Fault.TheVariants.{EndsEarly, NoBus, NoMark, TooMany, LeftOver}
-use Rattle.schedule.specs.declared.answer.FileAnswer.{FileAnswer}
-use Rattle.schedule.specs.declared.answer.FileAnswer.TheVariants.{Taken, Refused}
+use Rattle.schedule.specs.declared.fault.Fault.{Fault}
+use Rattle.schedule.specs.declared.fault.Fault.TheVariants.{EndsEarly, NoBus, NoMark, TooMany, LeftOver}
 
 -- the faults of a file by their numbers in the table; two of them are those of the call for a fresh bench
 unfoldable pub fault_number : Fault → ℕ
@@ -23,9 +21,10 @@ fault_number NoMark = fresh_number fresh.NoMark
 fault_number TooMany = 4
 fault_number LeftOver = 5
 
-unfoldable pub file_number : FileAnswer → ℕ
-file_number Taken = 0
-file_number (Refused f) = fault_number f
+-- and of how a file is answered: it is taken, or refused with a fault
+unfoldable pub file_number : Result (Unit {0}) Fault → ℕ
+file_number (Ok u) = 0
+file_number (Err f) = fault_number f
 
 -- What reading from the front of some bytes gives: what stands there, with the bytes after it, or the fault that was met.
 pub data Reading (A : Type 0) : Type 0 where
@@ -107,9 +106,9 @@ file_due L bs =
     (λ ms rest. next (section_due rest) (λ es rest'. nothing_left (record { marks = ms; events = es }) rest'))
 
 -- how a file is answered
-unfoldable pub answer_of : {A : Type 0} → Reading A → FileAnswer
-answer_of (got x rest) = Taken
-answer_of (fault f) = Refused f
+unfoldable pub answer_of : {A : Type 0} → Reading A → Result (Unit {0}) Fault
+answer_of (got x rest) = Ok tt
+answer_of (fault f) = Err f
 
 -- the bytes of the longest file that is not refused
 abbrev pub longest_file : Limits → ℕ

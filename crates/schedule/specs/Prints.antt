@@ -1,5 +1,5 @@
 -- Document 01, "Schedule file and program": what is printed, as bytes.
-use Rattle.std.specs.Prelude.{ℕ, zero, suc, ◌+◌, ◌*◌, ◌/◌, ◌%◌, List, [], ◌∷◌, ◌++◌, leb, ltb, length, ◌≡◌}
+use Rattle.std.specs.Prelude.{ℕ, zero, suc, ◌+◌, ◌*◌, ◌/◌, ◌%◌, List, [], ◌∷◌, ◌++◌, leb, ltb, length, ◌≡◌, ◌≤◌, Result, Ok, Err}
 use Rattle.std.proofs.lemmas.List.Edits.{sets}
 use Rattle.signer.specs.FromOne.{nth}
 use Rattle.std.specs.Prelude.{if◌then◌else◌}
@@ -9,9 +9,9 @@ use Rattle.bench.specs.Shows.{letter_byte, shown}
 use Rattle.bench.specs.declared.bench.Bench.{Bench}
 use Rattle.bench.specs.declared.show.Shown.{Shown}
 use Rattle.schedule.specs.Files.{fault_number, most_events, Reading, got, fault, Contents, first_bench, file_due}
-use Rattle.schedule.specs.declared.answer.Fault.{Fault}
+use Rattle.schedule.specs.declared.fault.Fault.{Fault}
 use Rattle.schedule.specs.declared.report.Report.{Report}
-use Rattle.schedule.specs.declared.report.Report.TheVariants.{Written, Short}
+use Rattle.schedule.specs.declared.report.TooShort.{TooShort}
 
 -- A number in decimal, with no zero in front: below ten it is one digit, and from there on the decimal of its tenth part
 -- and its last digit. `decimal_in` takes the most digits to write; m + 1 are always enough.
@@ -79,8 +79,8 @@ printed L bs = printed_from L (file_due L bs)
 
 -- The report puts it at the start of a lent buffer, and the rest of the buffer stays. Where there is too little room it
 -- writes nothing. Either way it says how many bytes there are to print.
-unfoldable pub report_from : List ℕ → ℕ → Report
-report_from text room = if leb (length text) room then Written (length text) else Short (length text)
+unfoldable pub report_from : List ℕ → ℕ → Result ℕ TooShort
+report_from text room = if leb (length text) room then Ok (length text) else Err (record { needed = length text })
 
 unfoldable pub buffer_from : List ℕ → List ℕ → List ℕ
 buffer_from text buf = if leb (length text) (length buf) then written text buf else buf
@@ -95,6 +95,18 @@ board_line_bytes = 14
 
 abbrev pub longest_print : Limits → ℕ
 longest_print L = most_events * event_line_bytes + L.boards * board_line_bytes
+
+-- What the calls within make of a file that was read and played, or is refused: the lines of it, and that there are no more
+-- of them than there can be.
+abbrev pub report_lines : Limits → Report → List ℕ
+report_lines L r = event_lines r.count r.answers ++ board_lines L r.n r.bench
+
+abbrev pub report_text : Limits → Result Report Fault → List ℕ
+report_text L (Ok r) = report_lines L r
+report_text L (Err f) = refused_line f
+
+abbrev pub IsWithin : Limits → Report → Type 0
+IsWithin L r = (r.count ≤ most_events) × (r.n ≤ L.boards)
 
 -- What the calls within that write a part of it promise: the text stands in the buffer from a place on, as far as the
 -- buffer goes, and the place after it is told.

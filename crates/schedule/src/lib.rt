@@ -2,17 +2,17 @@
 // taken, and is read as what it means or refused with the first fault that is met in it.
 #![tactic(auto)]
 
-mod answer;
 mod bus;
+mod fault;
 mod file;
 mod player;
 mod report;
 mod section;
 mod text;
 
-pub use answer::{Fault, FileAnswer};
 pub use bus::Bus;
+pub use fault::Fault;
 pub use file::Schedule;
 pub use player::play;
-pub use report::Report;
+pub use report::{Report, TooShort};
 pub use section::Section;

@@ -14,7 +14,8 @@ pub fn play(
     events: &[u8],
     answers: &mut [u8],
 ) -> Played
-    ensures { (result ≡ played_of limits n marks (take (event_bytes * count) events.now) (length answers.old)) × (answers.new ≡ answers_after limits n marks (take (event_bytes * count) events.now) answers.old) }
+    ensures played { result ≡ played_of limits n marks (take (event_bytes * count) events.now) (length answers.old) }
+    ensures answers { answers.new ≡ answers_after limits n marks (take (event_bytes * count) events.now) answers.old }
 {
     let end = Event::BYTES * count as usize;
     if end > events.len() {

@@ -1,14 +1,13 @@
 ghost use Rattle.std.specs.Prelude.{◌≡◌};
 ghost use Rattle.schedule.specs.Readings.{section_of};
 
-use crate::answer::Fault;
+use crate::fault::Fault;
 use bench::Event;
 
-// What stands at the front of some bytes: a count of events and as many events, or a fault.
-#[derive(Clone, Copy)]
-pub enum Section {
-    Events(u16),
-    Refused(Fault),
+// What stands after the marks: how many events there are, in two bytes, and as many events.
+#[derive(Clone, Copy, Debug, PartialEq, Eq)]
+pub struct Section {
+    pub count: u16,
 }
 
 impl Section {
@@ -20,21 +19,19 @@ impl Section {
 
     // Reads the count, and looks whether its events are there. What follows them is not looked at.
     #[tactic(auto, using(crate::proofs::Rules::rules_section_section_read))]
-    pub fn read(bytes: &[u8]) -> Section
+    pub fn read(bytes: &[u8]) -> Result<Section, Fault>
         ensures { result ≡ section_of bytes.now }
     {
-        if bytes.len() < Section::COUNT_BYTES {
-            return Section::Refused(Fault::EndsEarly);
-        }
-        let high = bytes[0];
-        let low = bytes[1];
-        let count = Event::high_first(high, low);
+        let [high, low, events @ ..] = bytes else {
+            return Err(Fault::EndsEarly);
+        };
+        let count = u16::from_be_bytes([*high, *low]);
         if count > Section::MOST_EVENTS {
-            return Section::Refused(Fault::TooMany);
+            return Err(Fault::TooMany);
         }
-        if bytes.len() - Section::COUNT_BYTES < (count as usize) * Event::BYTES {
-            return Section::Refused(Fault::EndsEarly);
+        if events.len() < count as usize * Event::BYTES {
+            return Err(Fault::EndsEarly);
         }
-        Section::Events(count)
+        Ok(Section { count })
     }
 }

@@ -2,7 +2,7 @@ ghost use Rattle.std.specs.Prelude.{◌+◌, ◌≤◌, [], ◌∷◌, length};
 ghost use Rattle.delivery.specs.Limits.{limits};
 ghost use Rattle.schedule.specs.Prints.{decimal, event_line, board_line, refused_line, PutAt, longest_print};
 
-use crate::answer::Fault;
+use crate::fault::Fault;
 use bench::Shown;
 
 // Each of these puts some bytes into a buffer from a place on, as far as the buffer goes, and answers with the place
@@ -19,7 +19,7 @@ pub(crate) fn put(out: &mut [u8], at: usize, byte: u8) -> usize
     at + 1
 }
 
-// A number in decimal.
+// A number in decimal. Its digits are put by hand: `format!` needs a heap, and `write!` may fail.
 #[tactic(auto, using(crate::proofs::Rules::rules_text_number))]
 pub(crate) fn number(out: &mut [u8], at: usize, m: u16) -> usize
     requires { at + length (decimal m) ≤ longest_print limits }
@@ -50,13 +50,11 @@ pub(crate) fn board_line(out: &mut [u8], at: usize, k: u8, shown: Shown) -> usiz
     requires { at + length (board_line k shown) ≤ longest_print limits }
     ensures { PutAt (board_line k shown) out.old at out.new result }
 {
-    let letter = shown.letter;
-    let round = shown.round;
     let mut next = number(out, at, k as u16);
     next = put(out, next, b' ');
-    next = put(out, next, letter.byte());
+    next = put(out, next, shown.letter.byte());
     next = put(out, next, b' ');
-    next = number(out, next, round.0 as u16);
+    next = number(out, next, shown.round.0 as u16);
     next = put(out, next, b' ');
     next = number(out, next, shown.value);
     put(out, next, b'\n')
@@ -69,10 +67,8 @@ pub(crate) fn word(out: &mut [u8], at: usize, text: &[u8]) -> usize
     ensures { PutAt text.now out.old at out.new result }
 {
     let mut next = at;
-    let mut k = 0usize;
-    while k < text.len() {
-        next = put(out, next, text[k]);
-        k += 1;
+    for byte in text {
+        next = put(out, next, *byte);
     }
     next
 }

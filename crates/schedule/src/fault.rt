@@ -5,7 +5,7 @@ use bench::FreshAnswer;
 
 // Why a file is refused: it ends where a byte is due, has no number of boards that there can be, has a mark that is none,
 // counts too many events, or goes on after the last of them.
-#[derive(Clone, Copy)]
+#[derive(Clone, Copy, Debug, PartialEq, Eq)]
 pub enum Fault {
     EndsEarly,
     NoBus,
@@ -14,15 +14,8 @@ pub enum Fault {
     LeftOver,
 }
 
-// How a file is answered.
-#[derive(Clone, Copy)]
-pub enum FileAnswer {
-    Taken,
-    Refused(Fault),
-}
-
 impl Fault {
-    // The fault's number in document 01's table.
+    // The fault's number in document 01's table. Two of them are said by the bench, so the enum has no numbers of its own.
     #[tactic(auto, unfolding(crate::specs::Files::fault_number))]
     pub fn number(self) -> u8
         ensures { result ≡ fault_number self }
@@ -35,17 +28,15 @@ impl Fault {
             Fault::LeftOver => 5,
         }
     }
-}
 
-impl FileAnswer {
-    // The answer's number: 0, or the fault's.
+    // The number of how a file is answered: 0, or the fault's.
     #[tactic(auto, unfolding(crate::specs::Files::file_number))]
-    pub fn number(self) -> u8
-        ensures { result ≡ file_number self }
+    pub fn number_of(answer: Result<(), Fault>) -> u8
+        ensures { result ≡ file_number answer }
     {
-        match self {
-            FileAnswer::Taken => 0,
-            FileAnswer::Refused(fault) => fault.number(),
+        match answer {
+            Ok(()) => 0,
+            Err(fault) => fault.number(),
         }
     }
 }

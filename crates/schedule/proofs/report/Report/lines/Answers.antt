@@ -1,0 +1,65 @@
+-- `Report::lines` meets its contract. Assumes nothing.
+use Prim.Native.Nat.{◌+◌, ◌-◌, ◌≤◌, ◌<◌}
+use native.Mathlib.Omega.{arith}
+use mathlib.Core.Path.{◌≡◌, sym, ◌∙◌}
+use Rattle.std.proofs.lemmas.List.{get_or-take, length-take}
+use mathlib.Core.List.{append-nil}
+use lib.ListN.{length, take, get_or}
+use Rattle.signer.specs.FromOne.{nth}
+use Rattle.signer.proofs.FromOneLaws.{nth_after}
+use Rattle.delivery.specs.Limits.{limits}
+use Rattle.bench.specs.Shows.{shown}
+use Rattle.schedule.specs.Prints.{event_line, event_lines, event_line_bytes, board_line, board_line_bytes, parts_to}
+use Rattle.schedule.proofs.PrintLaws.{event-within, board-within, parts_none, parts_next, parts_then}
+use Rattle.schedule.proofs.report.Report.lines.Goals as goal
+
+pub loop-k-init : goal.loop-k-init
+loop-k-init c = record { short = omega arith; put = parts_none _ }
+
+pub loop-k-preserved : goal.loop-k-preserved
+loop-k-preserved c =
+    let k = c.loop-k.k in
+    let run = c.args.self.now in
+    let answer = get_or (take run.count run.answers) k 0 in
+    let there : k < run.count = omega (arith, length-take run.count run.answers) in
+    let within : length (event_line (k + 1) answer) ≤ event_line_bytes = grind (arith, event-within) in
+    let e : nth run.answers (k + 1) 0 ≡ answer = nth_after run.answers k 0 ∙ sym (get_or-take run.count run.answers k 0 there) in
+    record {
+      short = omega (arith, within);
+      put = parts_next (λ j. event_line j (nth run.answers j 0)) k c.loop-k.invariant.put (rw e c.event_line-next.ensures);
+    }
+
+pub loop-k-2-init : goal.loop-k-2-init
+unfolding parts_to
+loop-k-2-init c =
+    let run = c.args.self.now in
+    let long : run.count ≤ length run.answers = grind arith in
+    let end : c.loop-k.k ≡ run.count = omega (arith, length-take run.count run.answers) in
+    record {
+      more = omega arith;
+      short = omega (arith, end);
+      put = rw (append-nil (event_lines run.count run.answers)) (rw end at c.loop-k.invariant.put);
+    }
+
+pub loop-k-2-preserved : goal.loop-k-2-preserved
+loop-k-2-preserved c =
+    let k = c.loop-k-2.k in
+    let run = c.args.self.now in
+    let line = c.shown.result in
+    let within : length (board_line k line) ≤ board_line_bytes = grind (arith, board-within) in
+    let last : k + 1 - 1 ≡ k = omega arith in
+    record {
+      more = omega arith;
+      short = omega (arith, within);
+      put = rw last (parts_then _ (λ j. board_line j (shown limits run.bench j)) k (k - 1) (omega arith) c.loop-k-2.invariant.put (rw c.shown.ensures at c.board_line-next.ensures));
+    }
+
+pub returns-clause-lines : goal.returns-clause-lines
+returns-clause-lines c = let end : c.loop-k-2.k - 1 ≡ c.args.self.now.n = omega arith in rw end at c.loop-k-2.invariant.put
+
+pub returns-2-clause-lines : goal.returns-2-clause-lines
+returns-2-clause-lines c =
+    let k = c.loop-k-2.k in
+    let run = c.args.self.now in
+    let end : k ≡ run.n = omega arith in
+    rw (← end) (parts_then _ (λ j. board_line j (shown limits run.bench j)) k (k - 1) (omega arith) c.loop-k-2.invariant.put (rw c.shown.ensures at c.board_line-next.ensures))

@@ -1,0 +1,15 @@
+-- `Report::write` meets its contract: an empty buffer tells how long the text is. Assumes nothing.
+use Rattle.schedule.proofs.PrintLaws.{report-short, report-written}
+use Rattle.schedule.proofs.report.Report.write.Goals as goal
+
+pub returns-then-length-out-clause-buffer : goal.returns-then-length-out-clause-buffer
+returns-then-length-out-clause-buffer c =
+    (report-short c.args.out.now (rw c.of-report.ensures.text at c.put-length.ensures.text) c.if-length-out.true).1
+
+pub returns-clause-answer : goal.returns-clause-answer
+returns-clause-answer c =
+    (report-written c.args.out.now (rw c.of-report.ensures.text at c.put-length.ensures.text) c.if-length-out.false (rw c.of-report.ensures.text at c.put.ensures.text)).0
+
+pub returns-clause-buffer : goal.returns-clause-buffer
+returns-clause-buffer c =
+    (report-written c.args.out.now (rw c.of-report.ensures.text at c.put-length.ensures.text) c.if-length-out.false (rw c.of-report.ensures.text at c.put.ensures.text)).1
