@@ -2,21 +2,19 @@
 use Prim.Native.Nat.{ℕ, ◌+◌, ◌*◌, ◌≤◌}
 use native.Mathlib.Omega.{arith}
 use mathlib.Core.Path.{◌≡◌, refl, sym, ap, ◌∙◌}
-use mathlib.Core.List.{List, [], ◌∷◌, ◌++◌}
-use lib.ListN.{length, length-append}
-use Rattle.signer.specs.Log.{entry_at}
+use mathlib.Core.List.{List, [], ◌∷◌, ◌++◌, append_assoc}
+use lib.ListN.{length, take, drop, length-append}
+use lib.Seq.{sets, sets-eq, drop-drop}
+use borrow.Rule.Slice.PartMut.{put_mid}
 use Rattle.delivery.specs.Limits.{limits}
-use Rattle.delivery.specs.Owed.{receivers_at, copies_of, receivers}
-use Rattle.delivery.specs.declared.owed.Owed.{Owed}
-use Rattle.delivery.proofs.OwedLaws.{receivers-copies}
+use Rattle.delivery.specs.Owed.{receivers}
 use Rattle.bench.specs.Benches.{board_at, signer_at, signed_by, heard_by}
 use Rattle.bench.specs.declared.bench.Bench.{Bench}
-use Rattle.bench.proofs.BenchLaws.{signed-log}
 use Rattle.vote.specs.declared.board.Board.{Board}
 use Rattle.vote.specs.declared.board.Status.{Status}
 use Rattle.vote.specs.declared.position.Position.{Position}
 use Rattle.schedule.specs.Prints.{parts_to, PutAt}
-use Rattle.schedule.proofs.PrintLaws.{put-length, parts_same, length-parts}
+use Rattle.schedule.proofs.PrintLaws.{put-length, length-parts}
 use Rattle.fenderacai.specs.Rows.{status_words, position_words, board_words, words_to, table_words, row, status_size, position_size, board_size, table_size, row_size}
 
 -- how many words a status, a position and a board are
@@ -31,13 +29,6 @@ length-position p = refl
 pub length-board : (b : Board) (last : ℕ) → length (board_words b last) ≡ board_size
 unfolding board_words status_words position_words
 length-board b last = refl
-
--- a log's entries, and the receivers of copies, as the bench has them
-pub signer-words : (n : ℕ) (c : Bench) (s : ℕ) → words_to n (entry_at (signer_at limits c s).log) ≡ words_to n (signed_by limits c s)
-signer-words n c s = parts_same n _ _ (λ i _ _. ap (λ (x : ℕ). x ∷ []) (sym (signed-log limits c s i)))
-
-pub copies-words : (n : ℕ) (o : Owed) (s : ℕ) → words_to n (receivers_at (copies_of limits o s)) ≡ words_to n (receivers limits o s)
-copies-words n o s = parts_same n _ _ (λ i _ _. ap (λ (x : ℕ). x ∷ []) (sym (receivers-copies limits o s i)))
 
 -- n words have length n, and so a table has its size
 pub length-words : (n : ℕ) (f : ℕ → ℕ) → length (words_to n f) ≡ n
@@ -74,6 +65,15 @@ module _ (c : Bench) where
       ∙ ap (λ (m : ℕ). m + length delivered + length owed) (length-append (front ++ boards) signed)
       ∙ ap (λ (m : ℕ). m + length signed + length delivered + length owed) (length-append front boards)
       ∙ omega (arith, length-boards, length-table (signed_by limits c), length-delivered, length-table (receivers limits c.owed))
+
+-- words that were copied in their place were put there
+pub words_put : (words copied buf : List ℕ) (at k : ℕ) → copied ≡ words → k ≡ length words → at + length words ≤ length buf
+    → put_mid at k buf copied ≡ sets buf at words
+words_put words copied buf at k e n h =
+    ap (λ (ws : List ℕ). take at buf ++ (ws ++ drop k (drop at buf))) e
+    ∙ ap (λ (ws : List ℕ). take at buf ++ (words ++ ws)) (drop-drop k at buf ∙ ap (λ (m : ℕ). drop (at + m) buf) n)
+    ∙ sym (append_assoc (take at buf) words (drop (at + length words) buf))
+    ∙ sym (sets-eq words buf at h)
 
 -- where a text was put, and there was room for it and for k words more, there is still room for these
 pub room-left : {xs buf buf' : List ℕ} {at r m : ℕ} (k : ℕ) → PutAt xs buf at buf' r → length xs ≡ m → at + (m + k) ≤ length buf → r + k ≤ length buf'

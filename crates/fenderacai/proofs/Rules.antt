@@ -1,43 +1,23 @@
 -- For each function, the laws that its proof goes by.
 use Rattle.bench.proofs.RunLaws.{length-events}
 use Rattle.bench.proofs.SetupLaws.{fresh-bench}
-use Rattle.delivery.proofs.OwedLaws.{receivers-after}
-use Rattle.fenderacai.proofs.RowLaws.{copies-words, length-board, length-boards, length-delivered, length-position, length-row, length-status, length-table, length-words, room-left, signer-words}
+use Rattle.fenderacai.proofs.RowLaws.{length-board, length-boards, length-delivered, length-row, length-table, length-words, room-left}
 use Rattle.fenderacai.proofs.TraceLaws.{length-rows, length-traced, refused-traced, rows_next, rows_none, trace-played}
 use Rattle.schedule.proofs.PlayLaws.{events-fit, file-taken, start-within}
 use Rattle.schedule.proofs.PrintLaws.{buffer-short, buffer-written, length-parts, parts_next, parts_none, put-length, put-none, put_then, told-short, told-written}
-use Rattle.signer.proofs.LogLaws.{entry-after}
 
 pub ruleset rules_fenderacai_report = (told-written, told-short)
 
 pub ruleset rules_row_put = (put_then, length-table, length-boards, length-delivered, room-left)
 
-pub ruleset rules_row_put_board = (put_then, length-status, length-position, room-left)
-
 pub ruleset rules_row_put_boards = (put-length, parts_none, parts_next, length-parts, length-board, room-left)
-
-pub ruleset rules_row_put_copies = (receivers-after, put-length, parts_none, parts_next, length-words, room-left)
 
 pub ruleset rules_row_put_delivered = (put-length, parts_none, parts_next, length-parts, length-table, room-left)
 
-pub ruleset rules_row_put_front = (put_then)
+pub ruleset rules_row_put_table = (put-length, parts_none, parts_next, length-parts, length-words, room-left)
 
-pub ruleset rules_row_put_log = (entry-after, put-length, parts_none, parts_next, length-words, room-left)
-
-pub ruleset rules_row_put_owed = (put-length, parts_none, parts_next, length-parts, copies-words, length-words, room-left)
-
-pub ruleset rules_row_put_position = (put_then)
-
-pub ruleset rules_row_put_signed = (put-length, parts_none, parts_next, length-parts, signer-words, length-words, room-left)
-
-pub ruleset rules_row_put_speaker = (put-length, parts_none, parts_next, length-words, room-left)
-
-pub ruleset rules_row_put_status = (put_then)
-
-pub ruleset rules_row_put_store = (put-length, parts_none, parts_next, length-parts, length-words, room-left)
+pub ruleset rules_row_put_words = (put-length)
 
 pub ruleset rules_trace_rows = (length-events, put-length, length-row, length-rows, rows_next, rows_none)
 
-pub ruleset rules_trace_write = (put-none, buffer-written, refused-traced)
-
-pub ruleset rules_trace_write_played = (fresh-bench, put_then, put-length, buffer-short, buffer-written, file-taken, start-within, events-fit, length-row, trace-played, length-traced)
+pub ruleset rules_trace_write = (put-none, buffer-written, refused-traced, fresh-bench, put_then, put-length, buffer-short, file-taken, start-within, events-fit, length-row, trace-played, length-traced)

@@ -5,6 +5,7 @@ use mathlib.Core.Path.{◌≡◌, refl, sym, ap, ◌∙◌}
 use mathlib.Core.List.{List, [], ◌∷◌, ◌++◌}
 use lib.ListN.{length, drop, length-append}
 use lib.Seq.{sets}
+use Rattle.std.specs.Prelude.{Err}
 use Rattle.delivery.specs.Limits.{Limits, limits}
 use Rattle.bench.specs.Answers.{answer_number}
 use Rattle.bench.specs.Effects.{step_of}
@@ -17,8 +18,7 @@ use Rattle.bench.proofs.RunLaws.{events-none, length-events, events-next}
 use Rattle.schedule.specs.Files.{first_bench}
 use Rattle.schedule.specs.Prints.{PutAt}
 use Rattle.schedule.specs.Readings.{schedule_of}
-use Rattle.schedule.specs.declared.answer.Fault.{Fault}
-use Rattle.schedule.specs.declared.answer.FileAnswer.TheVariants.{Refused}
+use Rattle.schedule.specs.declared.fault.Fault.{Fault}
 use Rattle.schedule.specs.declared.file.Schedule.{Schedule}
 use Rattle.schedule.proofs.PrintLaws.{put_then}
 use Rattle.schedule.proofs.PlayLaws.{FileRead, file-fault, begun, events-read}
@@ -53,7 +53,7 @@ rows_none c k bs buf next e =
     ap (λ (es : List Event). sets buf next (rows_of limits c es)) (ap (λ (m : ℕ). events_in m bs) e ∙ events-none bs)
 
 -- a refused file has no trace
-pub refused-traced : (L : Limits) (bs : List ℕ) (w : Fault) → (schedule_of L bs).answer ≡ Refused w → traced L bs ≡ []
+pub refused-traced : (L : Limits) (bs : List ℕ) (w : Fault) → schedule_of L bs ≡ Err w → traced L bs ≡ []
 unfolding traced_from
 refused-traced L bs w t = ap (traced_from L) (file-fault L bs w t)
 

@@ -1,6 +1,7 @@
 -- A bench in words: each number that it holds in a place of its own, so that a second model can be compared with it
 -- (document 01, condition 3). A row begins with an answer, and then has the bench.
-use Rattle.std.specs.Prelude.{ℕ, ◌+◌, ◌*◌, List, [], ◌∷◌, ◌++◌}
+use Rattle.std.specs.Prelude.{ℕ, ◌+◌, ◌*◌, ◌≤◌, ◌≡◌, List, [], ◌∷◌, ◌++◌}
+use Rattle.signer.specs.declared.identifier.Identifier.{Identifier}
 use Rattle.delivery.specs.Limits.{Limits}
 use Rattle.delivery.specs.Owed.{receivers}
 use Rattle.vote.specs.declared.board.Board.{Board}
@@ -51,6 +52,11 @@ words_to n f = parts_to n (λ k. f k ∷ [])
 -- a table: for each speaker a word for each identifier
 unfoldable pub table_words : Limits → (ℕ → ℕ → ℕ) → List ℕ
 table_words L f = parts_to L.boards (λ s. words_to L.identifiers (f s))
+
+-- What the calls within that write a table ask of what tells its words: whatever it tells of a speaker and an identifier
+-- that there can be is f's word of them.
+abbrev pub Tells : Limits → (ℕ → Identifier → ℕ → Type 0) → (ℕ → ℕ → ℕ) → Type 0
+Tells L told f = (s i w : ℕ) → s ≤ L.boards → i ≤ L.identifiers → told s (record { 0 = i }) w → w ≡ f s i
 
 -- A row: the answer, n and the sound boards; each board; the entries that each board's signer signed; for each board
 -- those that it delivered; and the sets of boards to which copies are owed.

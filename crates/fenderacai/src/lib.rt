@@ -17,12 +17,12 @@ use schedule::Report;
 #[unsafe(no_mangle)]
 #[tactic(auto, using(crate::proofs::Rules::rules_fenderacai_report))]
 pub extern "C" fn fenderacai_report(file: &[u8], out: &mut [u8]) -> usize
-    ensures { (result ≡ length (printed limits file.now)) × (out.new ≡ buffer_from (printed limits file.now) out.old) }
+    ensures length { result ≡ length (printed limits file.now) }
+    ensures buffer { out.new ≡ buffer_from (printed limits file.now) out.old }
 {
-    let report = Report::write(file, out);
-    match report {
-        Report::Written(length) => length,
-        Report::Short(length) => length,
+    match Report::write(file, out) {
+        Ok(length) => length,
+        Err(short) => short.needed,
     }
 }
 
@@ -30,7 +30,8 @@ pub extern "C" fn fenderacai_report(file: &[u8], out: &mut [u8]) -> usize
 // if it is too short, all of it does.
 #[unsafe(no_mangle)]
 pub extern "C" fn fenderacai_trace(file: &[u8], out: &mut [u32]) -> usize
-    ensures { (result ≡ length (traced limits file.now)) × (out.new ≡ buffer_from (traced limits file.now) out.old) }
+    ensures length { result ≡ length (traced limits file.now) }
+    ensures buffer { out.new ≡ buffer_from (traced limits file.now) out.old }
 {
     trace::write(file, out)
 }

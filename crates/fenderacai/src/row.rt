@@ -1,16 +1,13 @@
-ghost use Rattle.std.specs.Prelude.{◌+◌, ◌*◌, ◌≤◌, ◌≡◌, [], ◌∷◌, length};
-ghost use Rattle.signer.specs.Log.{entry_at};
+ghost use Rattle.std.specs.Prelude.{◌+◌, ◌*◌, ◌≤◌, ◌≡◌, ℕ, length};
 ghost use Rattle.delivery.specs.Limits.{limits};
-ghost use Rattle.delivery.specs.Delivered.{heard_in, heard};
-ghost use Rattle.delivery.specs.Owed.{receivers_at, receivers};
-ghost use Rattle.bench.specs.Benches.{board_at, signer_at, signed_by, heard_by};
+ghost use Rattle.bench.specs.Benches.{board_at, signer_at, heard_by};
 ghost use Rattle.schedule.specs.Prints.{parts_to, PutAt};
-ghost use Rattle.fenderacai.specs.Rows.{status_number, stage_number, decision, status_words, position_words, board_words, words_to, table_words, row, front_size, status_size, position_size, board_size, table_size, row_size};
+ghost use Rattle.fenderacai.specs.Rows.{status_number, decision, board_words, table_words, Tells, row, board_size, table_size, row_size};
 
 use bench::Bench;
-use delivery::{Copies, Delivered, Owed, Round, store};
-use signer::{Identifier, Log};
-use vote::{Board, Decision, Position, Stage, Status};
+use delivery::{Delivered, Round, store};
+use signer::Identifier;
+use vote::{Board, Decision, Status};
 
 // The words at the front of a row, and those of a board, of a table and of a row.
 const FRONT_WORDS: usize = 3;
@@ -25,6 +22,7 @@ pub(crate) const WORDS: usize = FRONT_WORDS
     + Bench::BOARDS as usize * TABLE_WORDS
     + TABLE_WORDS;
 
+// A status by number. By hand, since a status that has a decision cannot be cast.
 #[tactic(auto, unfolding(crate::specs::Rows::status_number))]
 fn status_number(status: Status) -> u32
     ensures { result ≡ status_number status }
@@ -37,24 +35,13 @@ fn status_number(status: Status) -> u32
     }
 }
 
-#[tactic(auto, unfolding(crate::specs::Rows::stage_number))]
-fn stage_number(stage: Stage) -> u32
-    ensures { result ≡ stage_number stage }
-{
-    match stage {
-        Stage::Open => 0,
-        Stage::Vote => 1,
-        Stage::Count => 2,
-    }
-}
-
 // What a board decided; 0 in round 0 if it has not.
 #[tactic(auto, unfolding(crate::specs::Rows::decision))]
 fn decision(status: Status) -> Decision
     ensures { result ≡ decision status }
 {
     match status {
-        Status::Decided(d) => d,
+        Status::Decided(decision) => decision,
         Status::Idle | Status::Voting | Status::Spent => Decision {
             round: Round(0),
             value: 0,
@@ -62,208 +49,96 @@ fn decision(status: Status) -> Decision
     }
 }
 
-// A set as a word. That a parameter fits its type is known; of an array's element it would have to be shown.
-fn wide(set: u16) -> u32
-    ensures { result ≡ set }
-{
-    set as u32
-}
-
 // Each of these puts some words into a buffer from a place on, and answers with the place after them.
 
-// One word.
-fn put_word(out: &mut [u32], at: usize, word: u32) -> usize
-    requires { at + 1 ≤ length out.old }
-    ensures { PutAt (word ∷ []) out.old at out.new result }
+// Words as they stand.
+#[tactic(auto, using(crate::proofs::Rules::rules_row_put_words))]
+fn put_words(out: &mut [u32], at: usize, words: &[u32]) -> usize
+    requires { at + length words.now ≤ length out.old }
+    ensures { PutAt words.now out.old at out.new result }
 {
-    out[at] = word;
-    at + 1
-}
-
-// The answer, n and the sound boards.
-#[tactic(auto, using(crate::proofs::Rules::rules_row_put_front))]
-fn put_front(out: &mut [u32], at: usize, answer: u8, n: u8, sound: u16) -> usize
-    requires { at + front_size ≤ length out.old }
-    ensures { PutAt (answer ∷ n ∷ sound ∷ []) out.old at out.new result }
-{
-    let mut next = put_word(out, at, answer as u32);
-    next = put_word(out, next, n as u32);
-    put_word(out, next, sound as u32)
-}
-
-// A status, and what was decided.
-#[tactic(auto, using(crate::proofs::Rules::rules_row_put_status), unfolding(crate::specs::Rows::status_words))]
-fn put_status(out: &mut [u32], at: usize, status: Status) -> usize
-    requires { at + status_size ≤ length out.old }
-    ensures { PutAt (status_words status) out.old at out.new result }
-{
-    let decided = decision(status);
-    let mut next = put_word(out, at, status_number(status));
-    next = put_word(out, next, decided.round.0 as u32);
-    put_word(out, next, decided.value as u32)
-}
-
-// Where a board stands in the vote.
-#[tactic(auto, using(crate::proofs::Rules::rules_row_put_position), unfolding(crate::specs::Rows::position_words))]
-fn put_position(out: &mut [u32], at: usize, position: Position) -> usize
-    requires { at + position_size ≤ length out.old }
-    ensures { PutAt (position_words position) out.old at out.new result }
-{
-    let stage = position.stage;
-    let mut next = put_word(out, at, position.round.0 as u32);
-    next = put_word(out, next, position.estimate as u32);
-    next = put_word(out, next, stage_number(stage));
-    put_word(out, next, position.suspected as u32)
+    let end = at + words.len();
+    out[at..end].copy_from_slice(words);
+    end
 }
 
 // A board, and the highest identifier that its signer signed.
-#[tactic(auto, using(crate::proofs::Rules::rules_row_put_board), unfolding(crate::specs::Rows::board_words))]
+#[tactic(auto, unfolding(crate::specs::Rows::board_words, crate::specs::Rows::status_words, crate::specs::Rows::position_words, crate::specs::Rows::stage_number))]
 fn put_board(out: &mut [u32], at: usize, board: Board, last: Identifier) -> usize
     requires { at + board_size ≤ length out.old }
     ensures { PutAt (board_words board last.0) out.old at out.new result }
 {
-    let status = board.status;
-    let position = board.position;
-    let mut next = put_status(out, at, status);
-    next = put_position(out, next, position);
-    put_word(out, next, last.0 as u32)
+    let decided = decision(board.status);
+    let words = [
+        status_number(board.status),
+        decided.round.0 as u32,
+        decided.value as u32,
+        board.position.round.0 as u32,
+        board.position.estimate as u32,
+        board.position.stage as u32,
+        board.position.suspected as u32,
+        last.0 as u32,
+    ];
+    put_words(out, at, &words)
 }
 
 // Every board.
 #[tactic(auto, using(crate::proofs::Rules::rules_row_put_boards))]
-fn put_boards(out: &mut [u32], at: usize, bench: Bench) -> usize
+fn put_boards(out: &mut [u32], at: usize, bench: &Bench) -> usize
     requires { at + limits.boards * board_size ≤ length out.old }
-    ensures { PutAt (parts_to limits.boards (λ k. board_words (board_at limits bench k) (signer_at limits bench k).last.0)) out.old at out.new result }
+    ensures { PutAt (parts_to limits.boards (λ k. board_words (board_at limits bench.now k) (signer_at limits bench.now k).last.0)) out.old at out.new result }
 {
     let mut next = at;
-    let mut k = 0u8;
-    while k < Bench::BOARDS {
-        let signer = bench.signer(k + 1);
-        next = put_board(out, next, bench.board(k + 1), signer.last);
-        k += 1;
+    for k in 0..Bench::BOARDS {
+        next = put_board(out, next, bench.board(k + 1), bench.signer(k + 1).last);
     }
     next
 }
 
-// A log's entries.
-#[tactic(auto, using(crate::proofs::Rules::rules_row_put_log))]
-fn put_log(out: &mut [u32], at: usize, log: Log) -> usize
-    requires { at + limits.identifiers ≤ length out.old }
-    ensures { PutAt (words_to limits.identifiers (entry_at log)) out.old at out.new result }
-{
-    let entries = log.entries;
-    let mut next = at;
-    let mut i = 0usize;
-    while i < Identifier::LAST as usize {
-        next = put_word(out, next, entries[i]);
-        i += 1;
-    }
-    next
-}
-
-// What each board's signer signed.
-#[tactic(auto, using(crate::proofs::Rules::rules_row_put_signed), unfolding(crate::specs::Rows::table_words))]
-fn put_signed(out: &mut [u32], at: usize, bench: Bench) -> usize
-    requires { at + table_size limits ≤ length out.old }
-    ensures { PutAt (table_words limits (signed_by limits bench)) out.old at out.new result }
+// A table: for each speaker a word for each identifier.
+#[tactic(auto, using(crate::proofs::Rules::rules_row_put_table))]
+fn put_table<F: Fn(u8, Identifier) -> u32>(out: &mut [u32], at: usize, word: F) -> usize
+    requires calls { F.IsAlwaysCallable word }
+    requires room { at + table_size limits ≤ length out.old }
+    ensures { (f : ℕ → ℕ → ℕ) → Tells limits (F.post word) f → PutAt (table_words limits f) out.old at out.new result }
 {
     let mut next = at;
-    let mut k = 0u8;
-    while k < Bench::BOARDS {
-        let signer = bench.signer(k + 1);
-        next = put_log(out, next, signer.log);
-        k += 1;
-    }
-    next
-}
-
-// What one board delivered of a speaker.
-#[tactic(auto, using(crate::proofs::Rules::rules_row_put_speaker))]
-fn put_speaker(out: &mut [u32], at: usize, entries: &[u32; store::PLACES], speaker: u8) -> usize
-    requires { at + limits.identifiers ≤ length out.old }
-    ensures { PutAt (words_to limits.identifiers (heard_in limits entries.now speaker)) out.old at out.new result }
-{
-    let mut next = at;
-    let mut i = 0u8;
-    while i < Identifier::LAST {
-        next = put_word(out, next, store::entry(entries, speaker, Identifier(i + 1)));
-        i += 1;
-    }
-    next
-}
-
-// What one board delivered.
-#[tactic(auto, using(crate::proofs::Rules::rules_row_put_store), unfolding(crate::specs::Rows::table_words))]
-fn put_store(out: &mut [u32], at: usize, delivered: Delivered) -> usize
-    requires { at + table_size limits ≤ length out.old }
-    ensures { PutAt (table_words limits (heard limits delivered)) out.old at out.new result }
-{
-    let entries = delivered.entries;
-    let mut next = at;
-    let mut k = 0u8;
-    while k < Bench::BOARDS {
-        next = put_speaker(out, next, &entries, k + 1);
-        k += 1;
+    for k in 0..Bench::BOARDS {
+        for i in 0..Identifier::LAST {
+            out[next] = word(k + 1, Identifier(i + 1));
+            next += 1;
+        }
     }
     next
 }
 
 // What each board delivered.
 #[tactic(auto, using(crate::proofs::Rules::rules_row_put_delivered))]
-fn put_delivered(out: &mut [u32], at: usize, bench: Bench) -> usize
+fn put_delivered(out: &mut [u32], at: usize, bench: &Bench) -> usize
     requires { at + limits.boards * table_size limits ≤ length out.old }
-    ensures { PutAt (parts_to limits.boards (λ k. table_words limits (heard_by limits bench k))) out.old at out.new result }
+    ensures { PutAt (parts_to limits.boards (λ k. table_words limits (heard_by limits bench.now k))) out.old at out.new result }
 {
     let mut next = at;
-    let mut k = 0u8;
-    while k < Bench::BOARDS {
+    for k in 0..Bench::BOARDS {
         let board = bench.board(k + 1);
-        next = put_store(out, next, board.delivered);
-        k += 1;
-    }
-    next
-}
-
-// The receivers of copies of one speaker's statements.
-#[tactic(auto, using(crate::proofs::Rules::rules_row_put_copies))]
-fn put_copies(out: &mut [u32], at: usize, copies: Copies) -> usize
-    requires { at + limits.identifiers ≤ length out.old }
-    ensures { PutAt (words_to limits.identifiers (receivers_at copies)) out.old at out.new result }
-{
-    let receivers = copies.receivers;
-    let mut next = at;
-    let mut i = 0usize;
-    while i < Identifier::LAST as usize {
-        next = put_word(out, next, wide(receivers[i]));
-        i += 1;
-    }
-    next
-}
-
-// The copies that are owed.
-#[tactic(auto, using(crate::proofs::Rules::rules_row_put_owed), unfolding(crate::specs::Rows::table_words))]
-fn put_owed(out: &mut [u32], at: usize, owed: Owed) -> usize
-    requires { at + table_size limits ≤ length out.old }
-    ensures { PutAt (table_words limits (receivers limits owed)) out.old at out.new result }
-{
-    let mut next = at;
-    let mut k = 0u8;
-    while k < Bench::BOARDS {
-        next = put_copies(out, next, owed.copies(k + 1));
-        k += 1;
+        next = put_table(out, next, |speaker, id| board.delivered.entry(speaker, id));
     }
     next
 }
 
 // A row.
 #[tactic(auto, using(crate::proofs::Rules::rules_row_put), unfolding(crate::specs::Rows::row))]
-pub(crate) fn put(out: &mut [u32], at: usize, answer: u8, bench: Bench) -> usize
+pub(crate) fn put(out: &mut [u32], at: usize, answer: u8, bench: &Bench) -> usize
     requires { at + row_size limits ≤ length out.old }
-    ensures { PutAt (row limits answer bench) out.old at out.new result }
+    ensures { PutAt (row limits answer bench.now) out.old at out.new result }
 {
-    let mut next = put_front(out, at, answer, bench.n, bench.sound);
+    let mut next = put_words(
+        out,
+        at,
+        &[answer as u32, bench.n as u32, bench.sound as u32],
+    );
     next = put_boards(out, next, bench);
-    next = put_signed(out, next, bench);
+    next = put_table(out, next, |speaker, id| bench.signed(speaker, id));
     next = put_delivered(out, next, bench);
-    put_owed(out, next, bench.owed)
+    put_table(out, next, |speaker, id| bench.owed(speaker, id) as u32)
 }

@@ -11,7 +11,8 @@ ghost use Rattle.fenderacai.specs.Traces.{traced};
 // is too short, all of it does.
 #[unsafe(no_mangle)]
 pub extern "C" fn fenderacai_report(file: &[u8], out: &mut [u8]) -> usize
-    ensures { (result ≡ length (printed limits file.now)) × (out.new ≡ buffer_from (printed limits file.now) out.old) }
+    ensures length { result ≡ length (printed limits file.now) }
+    ensures buffer { out.new ≡ buffer_from (printed limits file.now) out.old }
 {
     fenderacai::fenderacai_report(file, out)
 }
@@ -20,7 +21,8 @@ pub extern "C" fn fenderacai_report(file: &[u8], out: &mut [u8]) -> usize
 // if it is too short, all of it does.
 #[unsafe(no_mangle)]
 pub extern "C" fn fenderacai_trace(file: &[u8], out: &mut [u32]) -> usize
-    ensures { (result ≡ length (traced limits file.now)) × (out.new ≡ buffer_from (traced limits file.now) out.old) }
+    ensures length { result ≡ length (traced limits file.now) }
+    ensures buffer { out.new ≡ buffer_from (traced limits file.now) out.old }
 {
     fenderacai::fenderacai_trace(file, out)
 }

@@ -140,6 +140,11 @@ pub parts_next : {buf buf' buf'' : List ℕ} {at r r' : ℕ} (f : ℕ → List �
 unfolding parts_to
 parts_next f k p q = rw (add-one k) (put_then p (rw (add-one k) at q))
 
+-- k + 1 parts are k, and then one more
+pub parts_more : (f : ℕ → List ℕ) (k : ℕ) → parts_to (k + 1) f ≡ parts_to k f ++ f (k + 1)
+unfolding parts_to
+parts_more f k = rw (add-one k) refl
+
 -- the same after another text
 pub parts_then : {buf buf' buf'' : List ℕ} {at r r' : ℕ} (xs : List ℕ) (f : ℕ → List ℕ) (k j : ℕ) → k ≡ j + 1
     → PutAt (xs ++ parts_to j f) buf at buf' r → PutAt (f k) buf' r buf'' r' → PutAt (xs ++ parts_to k f) buf at buf'' r'

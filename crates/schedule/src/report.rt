@@ -94,6 +94,7 @@ impl Report {
         ensures answer { result ≡ report_from (printed limits file.now) (length out.old) }
         ensures buffer { out.new ≡ buffer_from (printed limits file.now) out.old }
         ensures within { length (printed limits file.now) ≤ longest_print limits }
+        ensures fits { IfOk result (λ n. n ≤ length out.new) }
     {
         let report = Report::of(file);
         let length = Report::put(&report, &mut out[..0]);

@@ -8,13 +8,13 @@ use Rattle.fenderacai.proofs.RowLaws.{length-board, room-left}
 use Rattle.fenderacai.proofs.row.put_boards.Goals as goal
 
 pub loop-k-init : goal.loop-k-init
-loop-k-init c = (omega arith, parts_none _)
+loop-k-init c = parts_none _
 
 pub put_board-next-requires : goal.put_board-next-requires
 put_board-next-requires c =
-    let a = c.args.bench in
-    room-left _ c.loop-k.invariant.1 (length-parts board_size c.loop-k.k _ (λ j. length-board (board_at limits a j) (signer_at limits a j).last.0)) (omega (arith, c.requires))
+    let a = c.args.bench.now in
+    room-left _ c.loop-k.invariant (length-parts board_size c.loop-k.k _ (λ j. length-board (board_at limits a j) (signer_at limits a j).last.0)) (omega (arith, c.requires))
 
 pub loop-k-preserved : goal.loop-k-preserved
 loop-k-preserved c =
-    (omega arith, parts_next _ c.loop-k.k c.loop-k.invariant.1 (rw (c.signer-signer.ensures, c.board.ensures) at c.put_board-next.ensures))
+    parts_next _ c.loop-k.k c.loop-k.invariant (rw (c.signer.ensures, c.board.ensures) at c.put_board-next.ensures)

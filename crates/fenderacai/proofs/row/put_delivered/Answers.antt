@@ -1,5 +1,7 @@
 -- `row::put_delivered` meets its contract. Assumes nothing.
+use Prim.Native.Nat.{◌+◌}
 use native.Mathlib.Omega.{arith}
+use Rattle.std.proofs.Common.{rules}
 use Rattle.delivery.specs.Limits.{limits}
 use Rattle.bench.specs.Benches.{heard_by}
 use Rattle.schedule.proofs.PrintLaws.{parts_none, parts_next, length-parts}
@@ -8,13 +10,14 @@ use Rattle.fenderacai.proofs.RowLaws.{length-table, room-left}
 use Rattle.fenderacai.proofs.row.put_delivered.Goals as goal
 
 pub loop-k-init : goal.loop-k-init
-loop-k-init c = (omega arith, parts_none _)
+loop-k-init c = parts_none _
 
-pub put_store-next-requires : goal.put_store-next-requires
-put_store-next-requires c =
-    let a = c.args.bench in
-    room-left _ c.loop-k.invariant.1 (length-parts (table_size limits) c.loop-k.k _ (λ j. length-table (heard_by limits a j))) (omega (arith, c.requires))
+pub put_table-next-requires-clause-room : goal.put_table-next-requires-clause-room
+put_table-next-requires-clause-room c =
+    let a = c.args.bench.now in
+    room-left _ c.loop-k.invariant (length-parts (table_size limits) c.loop-k.k _ (λ j. length-table (heard_by limits a j))) (omega (arith, c.requires))
 
 pub loop-k-preserved : goal.loop-k-preserved
 loop-k-preserved c =
-    (omega arith, parts_next _ c.loop-k.k c.loop-k.invariant.1 (rw c.board-board.ensures at c.put_store-next.ensures))
+    let k = c.loop-k.k in
+    parts_next _ k c.loop-k.invariant (c.put_table-next.ensures (heard_by limits c.args.bench.now (k + 1)) (λ s i w _ _ told. search rules))

@@ -1,5 +1,5 @@
 -- `trace::rows` meets its contract. Assumes nothing.
-use Prim.Native.Nat.{◌+◌, ◌-◌}
+use Prim.Native.Nat.{ℕ, ◌+◌, ◌-◌, ◌*◌}
 use native.Mathlib.Omega.{arith}
 use mathlib.Core.Path.{◌≡◌, ap, ◌∙◌}
 use lib.ListN.{drop}
@@ -10,10 +10,9 @@ use Rattle.bench.specs.Answers.{answer_number}
 use Rattle.bench.specs.Effects.{step_of}
 use Rattle.bench.specs.Events.{event_bytes, event_from}
 use Rattle.bench.specs.Runs.{events_in}
-use Rattle.bench.specs.declared.effect.Outcome.{Outcome}
+use Rattle.bench.specs.declared.bench.Bench.{Bench}
 use Rattle.bench.specs.declared.event.Event.{Event}
 use Rattle.schedule.specs.Prints.{PutAt}
-use Rattle.schedule.proofs.PrintLaws.{put-length}
 use Rattle.fenderacai.specs.Rows.{row}
 use Rattle.fenderacai.specs.Traces.{rows_of}
 use Rattle.fenderacai.proofs.RowLaws.{length-row}
@@ -25,15 +24,18 @@ loop-k-preserved c =
     let l = c.loop-k in
     let n = c.args.count in
     let bs = c.args.events.now in
-    let rest = events_in (n - (l.k + 1)) (drop (l.read + event_bytes) bs) in
-    let event : c.read-event.result ≡ event_from (drop l.read bs) = c.read-event.ensures ∙ ap event_from (part_to_end bs l.read) in
-    let step : c.event-outcome.result ≡ step_of limits l.bench (event_from (drop l.read bs)) = c.event-outcome.ensures ∙ ap (λ (e : Event). step_of limits l.bench e) event in
-    let put : PutAt (row limits (answer_number c.event-outcome.result.answer) c.event-outcome.result.bench) l.out l.next c.put-next.new.out c.put-next.result = rw c.number.ensures at c.put-next.ensures in (
-      omega arith,
-      omega arith,
-      omega (arith, put.place, l.invariant.2, length-row c.event-outcome.result.bench (answer_number c.event-outcome.result.answer)),
-      put-length put ∙ l.invariant.3,
-      ap (λ (x : Outcome). sets c.put-next.new.out c.put-next.result (rows_of limits x.bench rest)) step
-          ∙ rows_next l.bench n l.k l.read bs c.loop-k-test.true (rw step at put)
-          ∙ l.invariant.4,
-    )
+    let at : ℕ = event_bytes * l.k in
+    let e : Event = event_from (drop at bs) in
+    let event : c.read.result ≡ e = c.read.ensures ∙ ap event_from (part_to_end bs at) in
+    let bench : c.apply-answer.new.self ≡ (step_of limits l.bench e).bench = c.apply-answer.ensures.1 ∙ ap (λ (x : Event). (step_of limits l.bench x).bench) event in
+    let answer : c.number.result ≡ answer_number (step_of limits l.bench e).answer = c.number.ensures ∙ ap answer_number (c.apply-answer.ensures.0 ∙ ap (λ (x : Event). (step_of limits l.bench x).answer) event) in
+    let put : PutAt (row limits (answer_number (step_of limits l.bench e).answer) (step_of limits l.bench e).bench) l.out l.next c.put-next.new.out c.put-next.result = rw (answer, bench) at c.put-next.ensures in
+    let far : event_bytes * (l.k + 1) ≡ at + event_bytes = omega arith in
+    record {
+      place = omega (arith, put.place, l.invariant.place, length-row (step_of limits l.bench e).bench (answer_number (step_of limits l.bench e).answer));
+      rest =
+          ap (λ (b : Bench). sets c.put-next.new.out c.put-next.result (rows_of limits b (events_in (n - (l.k + 1)) (drop (event_bytes * (l.k + 1)) bs)))) bench
+          ∙ ap (λ (m : ℕ). sets c.put-next.new.out c.put-next.result (rows_of limits (step_of limits l.bench e).bench (events_in (n - (l.k + 1)) (drop m bs)))) far
+          ∙ rows_next l.bench n l.k at bs c.loop-k-test.true put
+          ∙ l.invariant.rest;
+    }

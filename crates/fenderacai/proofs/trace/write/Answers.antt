@@ -1,17 +1,65 @@
--- `trace::write` meets its contract: a file that is refused has no row, and another is played. Assumes nothing.
+-- `trace::write` meets its contract: a file that is refused has no row; of another the row of the fresh bench and those of
+-- the events are its trace. Assumes nothing.
 use native.Mathlib.Omega.{arith}
 use mathlib.Core.Path.{◌≡◌, sym, ap, ◌∙◌}
 use mathlib.Core.List.{[]}
 use lib.ListN.{length}
+use borrow.Author.Rules.{part_to_end}
 use Rattle.delivery.specs.Limits.{limits}
-use Rattle.schedule.specs.declared.file.Schedule.{Schedule}
-use Rattle.schedule.proofs.PrintLaws.{put-none, buffer-written}
+use Rattle.bench.specs.Setups.{fresh_bench}
+use Rattle.bench.specs.declared.fresh.Fresh.{Fresh}
+use Rattle.bench.proofs.SetupLaws.{fresh-bench}
+use Rattle.schedule.specs.Prints.{PutAt}
+use Rattle.schedule.proofs.PrintLaws.{put-none, put_then, put-length, buffer-short, buffer-written}
+use Rattle.schedule.proofs.PlayLaws.{file-taken, start-within, events-fit}
 use Rattle.fenderacai.specs.Traces.{traced}
-use Rattle.fenderacai.proofs.TraceLaws.{refused-traced}
+use Rattle.fenderacai.proofs.RowLaws.{length-row}
+use Rattle.fenderacai.proofs.TraceLaws.{trace-played, length-traced, refused-traced}
 use Rattle.fenderacai.proofs.trace.write.Goals as goal
 
-pub returns-in-Refused : goal.returns-in-Refused
-returns-in-Refused c =
-    let a = c.args in
-    let none : traced limits a.file.now ≡ [] = refused-traced limits a.file.now _ (sym (ap (λ (x : Schedule). x.answer) c.read-schedule.ensures) ∙ c.in-Refused.is) in
-    (ap length (sym none), rw none (buffer-written (omega arith) put-none))
+pub returns-in_default-clause-buffer : goal.returns-in_default-clause-buffer
+returns-in_default-clause-buffer c =
+    let none : traced limits c.args.file.now ≡ [] = refused-traced limits c.args.file.now c.in_default.field-0 (sym c.read.ensures ∙ c.in_default.is) in
+    rw none (buffer-written (omega arith) put-none)
+
+pub returns-then-length-out-clause-length : goal.returns-then-length-out-clause-length
+returns-then-length-out-clause-length c =
+    sym (length-traced _ _ (file-taken limits _ _ c.type_inv.file (sym c.read.ensures ∙ c.in-Ok.is)))
+
+pub returns-then-length-out-clause-buffer : goal.returns-then-length-out-clause-buffer
+returns-then-length-out-clause-buffer c =
+    let bs = c.args.file.now in
+    let l = length-traced bs c.in-Ok.schedule (file-taken limits _ _ c.type_inv.file (sym c.read.ensures ∙ c.in-Ok.is)) in
+    buffer-short (traced limits bs) c.args.out.now (omega (arith, l, c.if-length-out.true))
+
+pub slice_bounds-rows-count : goal.slice_bounds-rows-count
+slice_bounds-rows-count c =
+    start-within limits _ _ (file-taken limits _ _ c.type_inv.file (sym c.read.ensures ∙ c.in-Ok.is))
+
+pub slice_bounds-rows-start : goal.slice_bounds-rows-start
+slice_bounds-rows-start c =
+    start-within limits _ _ (file-taken limits _ _ c.type_inv.file (sym c.read.ensures ∙ c.in-Ok.is))
+
+pub rows-requires : goal.rows-requires
+rows-requires c =
+    let bs = c.args.file.now in
+    let s = c.in-Ok.schedule in
+    let read = file-taken limits bs s c.type_inv.file (sym c.read.ensures ∙ c.in-Ok.is) in
+    record {
+      events = omega (arith, ap length (part_to_end bs s.start), events-fit limits bs s read);
+      room = omega (arith, c.put-next.ensures.place, put-length c.put-next.ensures, length-row c.fresh-fresh.result.bench 0, c.if-length-out.false);
+    }
+
+pub returns : goal.returns
+returns c =
+    let bs = c.args.file.now in
+    let s = c.in-Ok.schedule in
+    let read = file-taken limits bs s c.type_inv.file (sym c.read.ensures ∙ c.in-Ok.is) in
+    let begun : c.fresh-fresh.result.bench ≡ fresh_bench limits s.n s.marks = ap (λ (x : Fresh). x.bench) c.fresh-fresh.ensures ∙ fresh-bench limits s.n s.marks in
+    let text : PutAt (traced limits bs) c.args.out.now 0 c.rows.new.out c.rows.result =
+    rw (← trace-played limits bs s read) (put_then (rw begun at c.put-next.ensures) (rw (begun, part_to_end bs s.start) at c.rows.ensures)) in
+    let l = length-traced bs s read in
+    record {
+      length = omega (arith, text.place);
+      buffer = buffer-written (omega (arith, l, c.if-length-out.false)) text;
+    }
