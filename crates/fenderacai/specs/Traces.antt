@@ -1,6 +1,6 @@
 -- What playing a schedule file writes of it in words: a row for the fresh bench, with 0 for its answer, and one for each
 -- event, with its answer and the bench after it. A file that is refused has no row.
-use Rattle.std.specs.Prelude.{ℕ, List, [], ◌∷◌, ◌++◌}
+use Rattle.std.specs.Prelude.{ℕ, List, [], ◌∷◌, ◌++◌, Ok, Err}
 use Rattle.delivery.specs.Limits.{Limits}
 use Rattle.bench.specs.Answers.{answer_number}
 use Rattle.bench.specs.Effects.{step_of}
@@ -17,9 +17,9 @@ rows_of L c (e ∷ es) =
 
 -- a file's trace
 unfoldable pub traced_from : Limits → Reading Contents → List ℕ
-traced_from L (got f rest) =
+traced_from L (Ok (f, rest)) =
     let c = first_bench L f in row L 0 c ++ rows_of L c f.events
-traced_from L (fault f) = []
+traced_from L (Err f) = []
 
 abbrev pub traced : Limits → List ℕ → List ℕ
 traced L bs = traced_from L (file_due L bs)

@@ -5,6 +5,7 @@ use native.Mathlib.Omega.{arith}
 use mathlib.Core.Path.{◌≡◌, refl, subst⁻¹}
 use mathlib.Core.List.{List, [], ◌∷◌}
 use lib.ListN.{length, get_or, length-append}
+use Rattle.std.specs.Prelude.{Ok, Err}
 use Rattle.signer.specs.FromOne.{nth}
 use Rattle.signer.proofs.FromOneLaws.{within_low, nth-index}
 use Rattle.delivery.specs.Limits.{limits}
@@ -12,7 +13,7 @@ use Rattle.bench.specs.Runs.{after}
 use Rattle.bench.specs.Shows.{shown}
 use Rattle.bench.specs.declared.show.Shown.{Shown}
 use Rattle.bench.proofs.SetupLaws.{board-made}
-use Rattle.schedule.specs.Files.{Reading, got, fault, Contents, first_bench, file_due, answer_of}
+use Rattle.schedule.specs.Files.{Reading, got, Contents, first_bench, file_due, answer_of}
 use Rattle.schedule.specs.Layouts.{All, none, more, Holdable}
 use Rattle.schedule.specs.Prints.{parts_to, board_line, board_lines, refused_line, printed_from}
 use Rattle.schedule.specs.Demands.{Demand1, Demand2}
@@ -35,11 +36,11 @@ board-some k s = omega (arith, board-length k s)
 -- so there is always a report: a file that is taken has a board, and the line of one that is refused begins with a word
 print-some : (p : Reading Contents) → ((f : Contents) (rest : List ℕ) → p ≡ got f rest → Holdable limits f) → 0 < length (printed_from limits p)
 unfolding printed_from refused_line
-print-some (got f rest) h =
+print-some (Ok (f, rest)) h =
     let c = after limits (first_bench limits f) f.events in
     let some : 0 < length (board_lines limits (length f.marks) c) = parts-some _ _ (within_low limits.boards _ (h f rest refl).boards) (λ k. board-some k (shown limits c k)) in
     simp length-append (omega arith)
-print-some (fault w) h = omega arith
+print-some (Err w) h = omega arith
 
 -- what holds of all of a list holds of its k-th
 all-at : {A : Type 0} (P : A → Type 0) (xs : List A) (i : ℕ) (d : A) → All P xs → i < length xs → P (get_or xs i d)

@@ -68,8 +68,8 @@ unfolding bus_from
 bus-taken L bs b u t = go (bus_due L bs) refl t
   where
     go : (p : Reading (List ℕ)) → bus_due L bs ≡ p → bus_from L p ≡ Ok b → BusRead L bs b
-    go (fault w) g a = let z : ◌≡◌ {A = ℕ} 0 1 = cc in absurd (omega arith)
-    go (got ms cs) g a =
+    go (Err w) g a = let z : ◌≡◌ {A = ℕ} 0 1 = cc in absurd (omega arith)
+    go (Ok (ms, cs)) g a =
         let whole : bs ≡ length ms ∷ ms ++ cs = (bus-laid L bs ms cs g).0 u in
         let is : b ≡ record { n = length ms; marks = padded L ms } = cc in
         let n : 1 + b.n ≡ length (length ms ∷ ms) = ap (λ (x : Bus). 1 + x.n) is ∙ omega arith in
@@ -90,8 +90,8 @@ unfolding bus_from
 bus-refused L bs w t = go (bus_due L bs) t
   where
     go : (p : Reading (List ℕ)) → bus_from L p ≡ Err w → p ≡ fault w
-    go (got ms cs) a = let z : ◌≡◌ {A = ℕ} 0 1 = cc in absurd (omega arith)
-    go (fault v) a = let same : v ≡ w = cc in ap fault same
+    go (Ok (ms, cs)) a = let z : ◌≡◌ {A = ℕ} 0 1 = cc in absurd (omega arith)
+    go (Err v) a = let same : v ≡ w = cc in ap fault same
 
 -- the second, where it was read: its events, and what follows them
 pub record SectionRead (bs : List ℕ) (k : ℕ) : Type 0 where
@@ -106,8 +106,8 @@ unfolding section_from
 section-taken bs s u t = go (section_due bs) refl t
   where
     go : (p : Reading (List Event)) → section_due bs ≡ p → section_from p ≡ Ok s → SectionRead bs s.count
-    go (fault w) g a = let z : ◌≡◌ {A = ℕ} 0 1 = cc in absurd (omega arith)
-    go (got es cs) g a =
+    go (Err w) g a = let z : ◌≡◌ {A = ℕ} 0 1 = cc in absurd (omega arith)
+    go (Ok (es, cs)) g a =
         let whole : bs ≡ section_laid es ++ cs = (section-laid bs es cs g).0 u in
         let is : s ≡ record { count = length es } = cc in
         let count : length es ≡ s.count = sym (ap (λ (x : Section). x.count) is) in
@@ -124,8 +124,8 @@ unfolding section_from
 section-refused bs w t = go (section_due bs) t
   where
     go : (p : Reading (List Event)) → section_from p ≡ Err w → p ≡ fault w
-    go (got es cs) a = let z : ◌≡◌ {A = ℕ} 0 1 = cc in absurd (omega arith)
-    go (fault v) a = let same : v ≡ w = cc in ap fault same
+    go (Ok (es, cs)) a = let z : ◌≡◌ {A = ℕ} 0 1 = cc in absurd (omega arith)
+    go (Err v) a = let same : v ≡ w = cc in ap fault same
 
 -- nothing may follow the last event
 left_over : (f : Contents) (bs : List ℕ) → 0 < length bs → nothing_left f bs ≡ fault LeftOver

@@ -76,8 +76,8 @@ unfolding schedule_from
 file-taken L bs s u t = go (file_due L bs) refl t
   where
     go : (p : Reading Contents) → file_due L bs ≡ p → schedule_from L p ≡ Ok s → FileRead L bs s
-    go (fault w) g a = let z : ◌≡◌ {A = ℕ} 0 1 = cc in absurd (omega arith)
-    go (got f cs) g a =
+    go (Err w) g a = let z : ◌≡◌ {A = ℕ} 0 1 = cc in absurd (omega arith)
+    go (Ok (f, cs)) g a =
         let l = file-laid L bs f cs g in
         let is : s ≡ schedule_in L f = cc in
         record { file = f; rest = cs; due = g; read = is; holds = l.1; whole = l.0 (bytes_of bs u) }
@@ -93,8 +93,8 @@ unfolding schedule_from
 file-fault L bs w t = go (file_due L bs) t
   where
     go : (p : Reading Contents) → schedule_from L p ≡ Err w → p ≡ fault w
-    go (got f cs) a = let z : ◌≡◌ {A = ℕ} 0 1 = cc in absurd (omega arith)
-    go (fault v) a = let same : v ≡ w = cc in ap fault same
+    go (Ok (f, cs)) a = let z : ◌≡◌ {A = ℕ} 0 1 = cc in absurd (omega arith)
+    go (Err v) a = let same : v ≡ w = cc in ap fault same
 
 -- A file that was read: n, the marks and the count are its own, and within what there can be.
 module _ (L : Limits) (bs : List ℕ) (s : Schedule) (h : FileRead L bs s) where

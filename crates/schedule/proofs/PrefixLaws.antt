@@ -10,7 +10,7 @@ use mathlib.Core.Logic.{◌⊎◌, inl, inr, ⊎_elim}
 use lib.Dec.{leb}
 use lib.ListN.{length, take, drop, length-append, length-take, length-drop, take-append-drop}
 use lib.Seq.{take_all, drop-append-le}
-use Rattle.std.specs.Prelude.{if◌then◌else◌}
+use Rattle.std.specs.Prelude.{if◌then◌else◌, Ok, Err}
 use Rattle.signer.proofs.ConditionalLaws.{if-true, if-false}
 use Rattle.signer.proofs.FromOneLaws.{within-high}
 use Rattle.delivery.specs.Limits.{Limits}
@@ -183,11 +183,11 @@ overlong L bs more h = sym (then-end L (bs ++ more)) ∙ go (until_end L bs) ref
     left f (c ∷ cs) l = refl
 
     go : (p : Reading Contents) → until_end L bs ≡ p → next (until_end L (bs ++ more)) nothing_left ≡ next (until_end L bs) nothing_left
-    go (got f rest) e =
+    go (Ok (f, rest)) e =
         next-got nothing_left _ f (rest ++ more) ((until-steady L).goes bs more f rest e)
         ∙ left f rest (omega (arith, (until-steady L).takes bs f rest e, h))
         ∙ sym (next-got nothing_left _ f rest e)
-    go (fault w) e =
+    go (Err w) e =
         ⊎_elim
         (λ l. next-fault nothing_left _ w l ∙ sym (next-fault nothing_left _ w e))
         (λ r. absurd (omega (arith, r.1, h)))

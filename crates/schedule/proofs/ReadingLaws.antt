@@ -7,7 +7,7 @@ use mathlib.Core.Bool.{Bool, true, false, true≢false}
 use mathlib.Core.List.{List, [], ◌∷◌, ◌++◌}
 use mathlib.Core.Logic.{◌⊎◌, inl, inr, ⊎_elim}
 use lib.ListN.{length}
-use Rattle.std.specs.Prelude.{if◌then◌else◌, Err}
+use Rattle.std.specs.Prelude.{if◌then◌else◌, Ok, Err}
 use Rattle.signer.proofs.ConditionalLaws.{if-true, if-false}
 use Rattle.delivery.proofs.TestLaws.{decided}
 use Rattle.schedule.specs.Files.{Reading, got, fault, next, byte_due, many_due, answer_of}
@@ -19,35 +19,35 @@ pub got-no-fault : {A : Type 0} (x : A) (bs : List ℕ) (w : Fault) → got x bs
 got-no-fault {A} x bs w e = true≢false (ap is-got e)
   where
     is-got : Reading A → Bool
-    is-got (got y cs) = true
-    is-got (fault v) = false
+    is-got (Ok (y, cs)) = true
+    is-got (Err v) = false
 
 pub got-rest : {A : Type 0} (x y : A) (bs cs : List ℕ) → got x bs ≡ got y cs → bs ≡ cs
 got-rest {A} x y bs cs e = ap rest e
   where
     rest : Reading A → List ℕ
-    rest (got z ds) = ds
-    rest (fault v) = []
+    rest (Ok (z, ds)) = ds
+    rest (Err v) = []
 
 pub got-value : {A : Type 0} (x y : A) (bs cs : List ℕ) → got x bs ≡ got y cs → x ≡ y
 got-value {A} x y bs cs e = ap value e
   where
     value : Reading A → A
-    value (got z ds) = z
-    value (fault v) = x
+    value (Ok (z, ds)) = z
+    value (Err v) = x
 
 pub fault-value : {A : Type 0} (w v : Fault) → ◌≡◌ {A = Reading A} (fault w) (fault v) → w ≡ v
 fault-value {A} w v e = ap value e
   where
     value : Reading A → Fault
-    value (got z ds) = w
-    value (fault u) = u
+    value (Ok (z, ds)) = w
+    value (Err u) = u
 
 -- what was refused met that fault
 pub answer-fault : {A : Type 0} (p : Reading A) (w : Fault) → answer_of p ≡ Err w → p ≡ fault w
 unfolding answer_of
-answer-fault (got x bs) w e = let z : ◌≡◌ {A = ℕ} 0 1 = cc in absurd (omega arith)
-answer-fault (fault v) w e = let same : v ≡ w = cc in ap fault same
+answer-fault (Ok (x, bs)) w e = let z : ◌≡◌ {A = ℕ} 0 1 = cc in absurd (omega arith)
+answer-fault (Err v) w e = let same : v ≡ w = cc in ap fault same
 
 module _ {A B : Type 0} (f : A → List ℕ → Reading B) where
   -- to read on after something is what is read there, and after a fault is the fault
@@ -62,14 +62,14 @@ module _ {A B : Type 0} (f : A → List ℕ → Reading B) where
 -- to read nothing more is to have read it, and reading on twice is reading on once
 pub next-same : {A : Type 0} (p : Reading A) → next p (λ x rest. got x rest) ≡ p
 unfolding next
-next-same (got x bs) = refl
-next-same (fault w) = refl
+next-same (Ok (x, bs)) = refl
+next-same (Err w) = refl
 
 pub next-next : {A B C : Type 0} (p : Reading A) (f : A → List ℕ → Reading B) (g : B → List ℕ → Reading C)
     → next (next p f) g ≡ next p (λ x bs. next (f x bs) g)
 unfolding next
-next-next (got x bs) f g = refl
-next-next (fault w) f g = refl
+next-next (Ok (x, bs)) f g = refl
+next-next (Err w) f g = refl
 
 -- of so many, the first is read and then the others, or it is a fault
 module _ {A : Type 0} (p : List ℕ → Reading A) (k : ℕ) (bs : List ℕ) where
@@ -89,8 +89,8 @@ pub data Went {A B : Type 0} (f : A → List ℕ → Reading B) (p : Reading A) 
 
 pub next-went : {A B : Type 0} (f : A → List ℕ → Reading B) (p : Reading A) (q : Reading B) → next p f ≡ q → Went f p q
 unfolding next
-next-went f (got x bs) q e = went x bs refl e
-next-went f (fault w) q e = stopped w refl (sym e)
+next-went f (Ok (x, bs)) q e = went x bs refl e
+next-went f (Err w) q e = stopped w refl (sym e)
 
 -- A reading that looks at no more than so many bytes: with more bytes after them it gives the same, unless it ended early
 -- and there were fewer.

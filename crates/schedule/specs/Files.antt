@@ -27,14 +27,19 @@ file_number (Ok u) = 0
 file_number (Err f) = fault_number f
 
 -- What reading from the front of some bytes gives: what stands there, with the bytes after it, or the fault that was met.
-pub data Reading (A : Type 0) : Type 0 where
-  got : A → List ℕ → Reading A
-  fault : Fault → Reading A
+abbrev pub Reading : Type 0 → Type 0
+Reading A = Result (A × List ℕ) Fault
+
+abbrev pub got : {A : Type 0} → A → List ℕ → Reading A
+got x bs = Ok (x, bs)
+
+abbrev pub fault : {A : Type 0} → Fault → Reading A
+fault f = Err f
 
 -- reading goes on after what was read, and a fault ends it
 unfoldable pub next : {A B : Type 0} → Reading A → (A → List ℕ → Reading B) → Reading B
-next (got x bs) f = f x bs
-next (fault x) f = fault x
+next (Ok (x, bs)) f = f x bs
+next (Err w) f = Err w
 
 -- a byte that is due
 unfoldable pub byte_due : List ℕ → Reading ℕ
@@ -107,8 +112,8 @@ file_due L bs =
 
 -- how a file is answered
 unfoldable pub answer_of : {A : Type 0} → Reading A → Result (Unit {0}) Fault
-answer_of (got x rest) = Ok tt
-answer_of (fault f) = Err f
+answer_of (Ok (x, rest)) = Ok tt
+answer_of (Err f) = Err f
 
 -- the bytes of the longest file that is not refused
 abbrev pub longest_file : Limits → ℕ

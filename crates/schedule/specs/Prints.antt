@@ -8,7 +8,7 @@ use Rattle.bench.specs.Runs.{after, answers_to, written}
 use Rattle.bench.specs.Shows.{letter_byte, shown}
 use Rattle.bench.specs.declared.bench.Bench.{Bench}
 use Rattle.bench.specs.declared.show.Shown.{Shown}
-use Rattle.schedule.specs.Files.{fault_number, most_events, Reading, got, fault, Contents, first_bench, file_due}
+use Rattle.schedule.specs.Files.{fault_number, most_events, Reading, Contents, first_bench, file_due}
 use Rattle.schedule.specs.declared.fault.Fault.{Fault}
 use Rattle.schedule.specs.declared.report.Report.{Report}
 use Rattle.schedule.specs.declared.report.TooShort.{TooShort}
@@ -68,11 +68,11 @@ refused_line f = line (refused_word ∷ decimal (fault_number f) ∷ [])
 -- a file's whole report: a line per event and a line per board, after its events were played from the fresh bench of its
 -- marks; a refused file's only line
 unfoldable pub printed_from : Limits → Reading Contents → List ℕ
-printed_from L (got f rest) =
+printed_from L (Ok (f, rest)) =
     let c = first_bench L f in
     event_lines (length f.events) (answers_to L c f.events)
     ++ board_lines L (length f.marks) (after L c f.events)
-printed_from L (fault f) = refused_line f
+printed_from L (Err f) = refused_line f
 
 abbrev pub printed : Limits → List ℕ → List ℕ
 printed L bs = printed_from L (file_due L bs)

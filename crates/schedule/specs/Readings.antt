@@ -2,7 +2,7 @@
 use Rattle.std.specs.Prelude.{ℕ, ◌+◌, ◌-◌, List, ◌++◌, length, replicate, Result, Ok, Err}
 use Rattle.delivery.specs.Limits.{Limits}
 use Rattle.bench.specs.declared.event.Event.{Event}
-use Rattle.schedule.specs.Files.{Reading, got, fault, bus_due, count_bytes, section_due, Contents, file_due}
+use Rattle.schedule.specs.Files.{Reading, bus_due, count_bytes, section_due, Contents, file_due}
 use Rattle.schedule.specs.declared.bus.Bus.{Bus}
 use Rattle.schedule.specs.declared.fault.Fault.{Fault}
 use Rattle.schedule.specs.declared.section.Section.{Section}
@@ -14,16 +14,16 @@ padded L ms = ms ++ replicate (L.boards - length ms) 0
 
 -- the first section: n and the marks
 unfoldable pub bus_from : Limits → Reading (List ℕ) → Result Bus Fault
-bus_from L (got ms rest) = Ok (record { n = length ms; marks = padded L ms })
-bus_from L (fault f) = Err f
+bus_from L (Ok (ms, rest)) = Ok (record { n = length ms; marks = padded L ms })
+bus_from L (Err f) = Err f
 
 abbrev pub bus_of : Limits → List ℕ → Result Bus Fault
 bus_of L bs = bus_from L (bus_due L bs)
 
 -- the second: how many events there are
 unfoldable pub section_from : Reading (List Event) → Result Section Fault
-section_from (got es rest) = Ok (record { count = length es })
-section_from (fault f) = Err f
+section_from (Ok (es, rest)) = Ok (record { count = length es })
+section_from (Err f) = Err f
 
 abbrev pub section_of : List ℕ → Result Section Fault
 section_of bs = section_from (section_due bs)
@@ -39,8 +39,8 @@ schedule_in L f =
     }
 
 unfoldable pub schedule_from : Limits → Reading Contents → Result Schedule Fault
-schedule_from L (got f rest) = Ok (schedule_in L f)
-schedule_from L (fault f) = Err f
+schedule_from L (Ok (f, rest)) = Ok (schedule_in L f)
+schedule_from L (Err f) = Err f
 
 abbrev pub schedule_of : Limits → List ℕ → Result Schedule Fault
 schedule_of L bs = schedule_from L (file_due L bs)
