@@ -5,7 +5,7 @@ ghost use Rattle.schedule.specs.Prints.{parts_to, PutAt};
 ghost use Rattle.fenderacai.specs.Rows.{status_number, decision, board_words, table_words, Tells, row, board_size, table_size, row_size};
 
 use bench::Bench;
-use delivery::{Delivered, Round, store};
+use delivery::{Delivered, Round};
 use signer::Identifier;
 use vote::{Board, Decision, Status};
 
@@ -14,7 +14,7 @@ const FRONT_WORDS: usize = 3;
 
 const BOARD_WORDS: usize = 8;
 
-const TABLE_WORDS: usize = store::PLACES;
+const TABLE_WORDS: usize = Delivered::PLACES;
 
 pub(crate) const WORDS: usize = FRONT_WORDS
     + Bench::BOARDS as usize * BOARD_WORDS
@@ -76,7 +76,7 @@ fn put_board(out: &mut [u32], at: usize, board: Board, last: Identifier) -> usiz
         board.position.round.0 as u32,
         board.position.estimate as u32,
         board.position.stage as u32,
-        board.position.suspected as u32,
+        board.position.suspected.bits() as u32,
         last.0 as u32,
     ];
     put_words(out, at, &words)
@@ -135,10 +135,10 @@ pub(crate) fn put(out: &mut [u32], at: usize, answer: u8, bench: &Bench) -> usiz
     let mut next = put_words(
         out,
         at,
-        &[answer as u32, bench.n as u32, bench.sound as u32],
+        &[answer as u32, bench.n as u32, bench.sound.bits() as u32],
     );
     next = put_boards(out, next, bench);
     next = put_table(out, next, |speaker, id| bench.signed(speaker, id));
     next = put_delivered(out, next, bench);
-    put_table(out, next, |speaker, id| bench.owed(speaker, id) as u32)
+    put_table(out, next, |speaker, id| bench.owed(speaker, id).bits() as u32)
 }

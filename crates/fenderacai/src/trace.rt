@@ -7,7 +7,7 @@ ghost use Rattle.fenderacai.specs.Rows.{row_size};
 ghost use Rattle.fenderacai.specs.Traces.{rows_of, traced};
 
 use crate::row;
-use bench::{Bench, Event};
+use bench::{Bench, Event, Refusal};
 use schedule::Schedule;
 
 // Plays so many events, and puts a row for each.
@@ -20,7 +20,7 @@ fn rows(out: &mut [u32], at: usize, mut bench: Bench, count: usize, events: &[u8
     let mut next = at;
     for k in 0..count {
         let answer = bench.apply(Event::read(&events[Event::BYTES * k..]));
-        next = row::put(out, next, answer.number(), &bench);
+        next = row::put(out, next, Refusal::number_of(answer), &bench);
     }
     next
 }

@@ -2,7 +2,6 @@
 use Rattle.std.specs.Prelude.{ℕ, ◌+◌, ◌≤◌, ◌<◌, ◌≡◌, List, [], ◌⊎◌, length, take, Ok, Err}
 use Rattle.delivery.specs.Limits.{limits}
 use Rattle.bench.specs.Setups.{fresh_answer}
-use Rattle.bench.specs.declared.answer.FreshAnswer.TheVariants.{Made}
 use Rattle.schedule.specs.Files.{file_number, got, Contents, file_due, answer_of, longest_file}
 use Rattle.schedule.specs.Layouts.{laid, Bytes, Holdable}
 use Rattle.schedule.specs.Readings.{schedule_of}
@@ -22,7 +21,7 @@ pub record Demand1 : Type 0 where
   pub refused : (bs : List ℕ) (w : Fault) → answer_of (file_due limits bs) ≡ Err w
       → (schedule_of limits bs ≡ Err w) × (printed limits bs ≡ refused_line w)
   pub made : (bs : List ℕ) (f : Contents) (rest : List ℕ) → file_due limits bs ≡ got f rest
-      → fresh_answer limits (length f.marks) f.marks ≡ Made
+      → fresh_answer limits (length f.marks) f.marks ≡ Ok tt
   pub any-length : (bs : List ℕ) → file_due limits (take (longest_file limits + 1) bs) ≡ file_due limits bs
 
 -- Demand 2: a file is read as exactly what its bytes mean. What it is read as, laid out in bytes, is the file itself; and

@@ -1,7 +1,7 @@
 ghost use Rattle.std.specs.Prelude.{◌≡◌};
 ghost use Rattle.schedule.specs.Files.{fault_number, file_number};
 
-use bench::FreshAnswer;
+use bench::SetupFault;
 
 // Why a file is refused: it ends where a byte is due, has no number of boards that there can be, has a mark that is none,
 // counts too many events, or goes on after the last of them.
@@ -22,8 +22,8 @@ impl Fault {
     {
         match self {
             Fault::EndsEarly => 1,
-            Fault::NoBus => FreshAnswer::NoBus.number(),
-            Fault::NoMark => FreshAnswer::NoMark.number(),
+            Fault::NoBus => SetupFault::NoBus.number(),
+            Fault::NoMark => SetupFault::NoMark.number(),
             Fault::TooMany => 4,
             Fault::LeftOver => 5,
         }
