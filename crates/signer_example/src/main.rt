@@ -6,30 +6,22 @@
 use signer::{Identifier, Log, Signer};
 use std::io;
 
-fn write_number(rt: &HostRuntime, n: u64) -> io::Result<()> {
-    print!(rt; "{n} ")
-}
-
 fn ask(rt: &HostRuntime, signer: &mut Signer, id: u8, value: u16) -> io::Result<()> {
-    let signed = signer.sign(Identifier(id), value);
-    write_number(rt, id as u64)?;
-    write_number(rt, value as u64)?;
-    if signed {
-        print!(rt; "signed\n")
+    let answer = if signer.sign(Identifier(id), value) {
+        "signed"
     } else {
-        print!(rt; "refused\n")
-    }
+        "refused"
+    };
+    print!(rt; "{id} {value} {answer}\n")
 }
 
 fn show(rt: &HostRuntime, signer: &Signer, id: u8) -> io::Result<()> {
     let entry = signer.entry(Identifier(id));
-    write_number(rt, id as u64)?;
     if entry == 0 {
-        print!(rt; "nothing\n")
-    } else {
-        let value = Log::value_of(entry);
-        print!(rt; "{value}\n")
+        return print!(rt; "{id} nothing\n");
     }
+    let value = Log::value_of(entry);
+    print!(rt; "{id} {value}\n")
 }
 
 fn main(rt: HostRuntime) -> io::Result<()> {
