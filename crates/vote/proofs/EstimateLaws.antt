@@ -156,7 +156,7 @@ module _ (L : Limits) (n me : ℕ) (b : Board) (some : 1 ≤ n) (p : Proper L b)
 
   -- every turn keeps it
   course-admitted : (t : Turn) → Course L n me b t → Admitted L n t.board
-  course-admitted t (not_taken x f e) = turned (Admitted L n) t _ e a
+  course-admitted t (not_taken x e) = turned (Admitted L n) t _ e a
   course-admitted t (passed v g f e) = turned (Admitted L n) t _ e (stays Vote b.position.suspected Voting (λ s. voting v))
   course-admitted t (opened v g c e) = turned (Admitted L n) t _ e (listens _ a.value Vote Voting (λ s. voting v))
   course-admitted t (balloted v g y e) =

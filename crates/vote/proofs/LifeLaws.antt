@@ -60,7 +60,7 @@ module _ (L : Limits) (n me : ℕ) (b : Board) where
   from c = Grows (store L b) (store L c)
 
   course-grows : (t : Turn) → Course L n me b t → from t.board
-  course-grows t (not_taken a f e) = turned from t _ e (grows_same (store L b))
+  course-grows t (not_taken a e) = turned from t _ e (grows_same (store L b))
   course-grows t (passed v g f e) = turned from t _ e (grows_same (store L b))
   course-grows t (opened v g c e) = turned from t _ e (hears-grows L b.delivered _)
   course-grows t (balloted v g y e) = turned from t _ e (hears-grows L b.delivered _)
@@ -104,7 +104,7 @@ module _ (L : Limits) (n me : ℕ) (b : Board) where
   Grounds d = (b.status ≡ Decided d) ⊎ Won L n (store L b) d.round.0 d.value
 
   course-won : (t : Turn) → Course L n me b t → (d : Decision) → t.board.status ≡ Decided d → Grounds d
-  course-won t (not_taken a f e) d i = inl (sym (ap (λ (u : Turn). u.board.status) e) ∙ i)
+  course-won t (not_taken a e) d i = inl (sym (ap (λ (u : Turn). u.board.status) e) ∙ i)
   course-won t (passed v g f e) d i = absurd (voting-decided d (sym (ap (λ (u : Turn). u.board.status) e) ∙ i))
   course-won t (opened v g c e) d i = absurd (voting-decided d (sym (ap (λ (u : Turn). u.board.status) e) ∙ i))
   course-won t (balloted v g y e) d i = absurd (voting-decided d (sym (ap (λ (u : Turn). u.board.status) e) ∙ i))

@@ -59,7 +59,7 @@ module _ (L : Limits) (b : Board) (p : Proper L b) where
       record { whole = w; round = λ s. voting-round v; estimate = λ s. voting-estimate v; spent = λ s. absurd (voting-spent s) }
 
   course-proper : (n me : ℕ) (t : Turn) → Course L n me b t → Proper L t.board
-  course-proper n me t (not_taken a f e) = turned (Proper L) t _ e p
+  course-proper n me t (not_taken a e) = turned (Proper L) t _ e p
   course-proper n me t (passed v g f e) = turned (Proper L) t _ e (same-round Vote b.delivered v p.whole)
   course-proper n me t (opened v g c e) = turned (Proper L) t _ e (same-round Vote _ v (hears-whole L b.delivered _ p.whole))
   course-proper n me t (balloted v g y e) = turned (Proper L) t _ e (same-round Count _ v (hears-whole L b.delivered _ p.whole))

@@ -111,7 +111,7 @@ module _ (L : Limits) (n me : ℕ) (b : Board) where
 
   course-speech : (t : Turn) → Course L n me b t → Speech t
   unfolding due due_in due_at
-  course-speech t (not_taken a f e) = silent (ap (λ (u : Turn). u.signed) e) (ap (λ (u : Turn). u.board.delivered) e)
+  course-speech t (not_taken a e) = silent (ap (λ (u : Turn). u.signed) e) (ap (λ (u : Turn). u.board.delivered) e)
   course-speech t (passed v g f e) = quiet t _ refl e
   course-speech t (opened v g c e) =
       speaks
@@ -158,7 +158,7 @@ module _ (L : Limits) (n me : ℕ) (b : Board) where
 
   course-due : (t : Turn) → Course L n me b t → (b.status ≡ Voting → is_round L r ≡ true) → due L b ≤ due L t.board
   unfolding due due_in due_at
-  course-due t (not_taken a f e) i = rw e (omega arith)
+  course-due t (not_taken a e) i = rw e (omega arith)
   course-due t (passed v g f e) i = le_of_lt (open-vote t v g (ap (λ (u : Turn). due L u.board) e) (i v))
   course-due t (opened v g c e) i = le_of_lt (open-vote t v g (ap (λ (u : Turn). due L u.board) e) (i v))
   course-due t (balloted v g y e) i = le_of_lt (vote-count t v g (ap (λ (u : Turn). due L u.board) e))

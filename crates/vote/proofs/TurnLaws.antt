@@ -1,8 +1,8 @@
 -- Laws of a turn. Assumes nothing.
 use Prim.Native.Nat.{ℕ, suc, ◌≤◌, ◌<◌}
 use mathlib.Core.Path.{◌≡◌, refl, sym, ap, subst⁻¹, ◌∙◌}
-use mathlib.Core.Bool.{Bool, true, false, true≢false}
-use mathlib.Core.Logic.{◌⊎◌, inl, inr}
+use mathlib.Core.Bool.{true, true≢false}
+use mathlib.Core.Logic.{◌⊎◌, inl}
 use native.Mathlib.Omega.{arith}
 use Rattle.std.specs.Prelude.{None, Some, Result, Ok, Err}
 use Rattle.delivery.specs.Limits.{Limits}
@@ -84,23 +84,6 @@ module _ (L : Limits) (me : ℕ) (b : Board) where
   unfolding position_after status_after said_in hears_own answer_to
   take-expires v = refl
 
--- no refusal says that the turn is taken
-answered : Result (Unit {0}) Refusal → Bool
-answered (Ok u) = true
-answered (Err r) = false
-
-pub idle-not : Err NotStarted ≡ Ok (tt {0}) → ⊥
-unfolding answered
-idle-not e = true≢false (sym (ap answered e))
-
-pub ended-not : Err Ended ≡ Ok (tt {0}) → ⊥
-unfolding answered
-ended-not e = true≢false (sym (ap answered e))
-
-pub waiting-not : Err Waiting ≡ Ok (tt {0}) → ⊥
-unfolding answered
-waiting-not e = true≢false (sym (ap answered e))
-
 -- the numbers of the refusals are among those of the rows for events
 pub refusal-within : (r : Refusal) → (10 ≤ turn_number r) × (turn_number r ≤ 22)
 unfolding turn_number
@@ -109,15 +92,6 @@ refusal-within Ended = (omega arith, omega arith)
 refusal-within Waiting = (omega arith, omega arith)
 
 -- and 0 is the number of a turn that is taken alone
-pub number-within : (a : Result (Unit {0}) Refusal) → (turn_answer a ≡ 0) ⊎ ((10 ≤ turn_answer a) × (turn_answer a ≤ 22))
-unfolding turn_answer
-number-within (Ok u) = inl refl
-number-within (Err r) = inr (refusal-within r)
-
-pub number-done : turn_answer (Ok tt) ≡ 0
-unfolding turn_answer
-number-done = refl
-
 pub number-some : (a : Result (Unit {0}) Refusal) → turn_answer a ≡ 0 → a ≡ Ok tt
 unfolding turn_answer
 number-some (Ok tt) e = refl
@@ -153,7 +127,7 @@ module _ (L : Limits) (n me : ℕ) (b : Board) where
 
   -- What a turn comes to: it is not taken, or the board was voting and does one of these.
   pub data Course (t : Turn) : Type 0 where
-    not_taken : (a : Refusal) → (Err a ≡ Ok (tt {0}) → ⊥) → t ≡ refuse b a → Course t
+    not_taken : (a : Refusal) → t ≡ refuse b a → Course t
     passed : b.status ≡ Voting → b.position.stage ≡ Open → (me ≡ coordinator n round.0 → ⊥)
         → t ≡ done (placed b round b.position.estimate Vote b.delivered Voting) → Course t
     opened : b.status ≡ Voting → b.position.stage ≡ Open → me ≡ coordinator n round.0
@@ -178,7 +152,7 @@ module _ (L : Limits) (n me : ℕ) (b : Board) where
         → t ≡ done (placed b round v Count b.delivered Spent) → Course t
 
   voting-course : (m : Move) → b.status ≡ Voting → Acts L n me b.position store m → Course (take L me b m)
-  voting-course Waits e a = not_taken Waiting waiting-not (take-waits L me b e)
+  voting-course Waits e a = not_taken Waiting (take-waits L me b e)
   voting-course Passes e (passes s f) = passed e s f (take-passes L me b)
   voting-course (Opens v) e (opens _ s c i) = opened e s c (ap (λ (w : ℕ). take L me b (Opens w)) i ∙ take-opens L me b b.position.estimate)
   voting-course (Ballots v) e (ballots _ s t i) = balloted e s t (ap (λ (w : ℕ). take L me b (Ballots w)) i ∙ take-ballots L me b (opened_value L n store round.0))
@@ -200,18 +174,18 @@ module _ (L : Limits) (n me : ℕ) (b : Board) where
   turn-course = go b.status refl
     where
       go : (s : Status) → b.status ≡ s → Course (turn L n me b)
-      go Idle e = not_taken NotStarted idle-not (turn-idle L n me b e)
+      go Idle e = not_taken NotStarted (turn-idle L n me b e)
       go Voting e =
           subst⁻¹
           Course
           (turn-voting L n me b e)
           (voting-course (rule L n me b.position store) e (rule-acts L n me b.position store))
-      go Spent e = not_taken Ended ended-not (turn-ended L n me b (ap is_ended e ∙ ended-spent))
-      go (Decided d) e = not_taken Ended ended-not (turn-ended L n me b (ap is_ended e ∙ ended-decided d))
+      go Spent e = not_taken Ended (turn-ended L n me b (ap is_ended e ∙ ended-spent))
+      go (Decided d) e = not_taken Ended (turn-ended L n me b (ap is_ended e ∙ ended-decided d))
 
   -- a turn that is not done changes nothing and signs nothing; above all one in which the board waits
   course-refused : (t : Turn) → Course t → (t.answer ≡ Ok tt → ⊥) → (t.board ≡ b) × (t.signed ≡ None)
-  course-refused t (not_taken a f e) x = (ap (λ (u : Turn). u.board) e, ap (λ (u : Turn). u.signed) e)
+  course-refused t (not_taken a e) x = (ap (λ (u : Turn). u.board) e, ap (λ (u : Turn). u.signed) e)
   course-refused t (passed v g f e) x = absurd (x (ap (λ (u : Turn). u.answer) e))
   course-refused t (opened v g c e) x = absurd (x (ap (λ (u : Turn). u.answer) e))
   course-refused t (balloted v g y e) x = absurd (x (ap (λ (u : Turn). u.answer) e))
@@ -229,7 +203,7 @@ module _ (L : Limits) (n me : ℕ) (b : Board) where
   course-estimate : (t : Turn) → Course t
       → (t.board.position.estimate ≡ b.position.estimate)
       ⊎ (accepts_opening L n store round.0 t.board.position.estimate ≡ true)
-  course-estimate t (not_taken a f e) = inl (ap (λ (u : Turn). u.board.position.estimate) e)
+  course-estimate t (not_taken a e) = inl (ap (λ (u : Turn). u.board.position.estimate) e)
   course-estimate t (passed v g f e) = inl (ap (λ (u : Turn). u.board.position.estimate) e)
   course-estimate t (opened v g c e) = inl (ap (λ (u : Turn). u.board.position.estimate) e)
   course-estimate t (balloted v g y e) = inl (ap (λ (u : Turn). u.board.position.estimate) e)
