@@ -1,16 +1,19 @@
 -- Laws of a turn on a bench: of a board that is voting, by what its rule has it do. Assumes nothing.
-use Prim.Native.Nat.{ℕ}
+use Prim.Native.Nat.{ℕ, ◌≤◌, ◌<◌}
 use native.Mathlib.Omega.{arith}
 use mathlib.Core.Path.{◌≡◌, refl, sym, ap, ◌∙◌}
 use mathlib.Core.Bool.{true, false, true≢false}
-use mathlib.Core.Logic.{⊎_elim}
+use mathlib.Core.Logic.{inl, inr}
+use mathlib.Core.List.{List}
+use Rattle.std.proofs.lemmas.Bool.{cases_lt}
 use Rattle.delivery.proofs.TestLaws.{or_left, or_right, or_no, decided}
 use Rattle.vote.proofs.BoardLaws.{fresh-status}
 use Rattle.vote.proofs.StatusLaws.{started-voting, idle-unstarted}
 use Rattle.vote.specs.declared.statement.Statement.{Statement}
 use lib.ListN.{length}
 use Rattle.std.specs.Prelude.{Option, None, Some}
-use Rattle.signer.proofs.FromOneLaws.{within-out, nth-none}
+use Rattle.signer.specs.FromOne.{nth}
+use Rattle.signer.proofs.FromOneLaws.{nth-none}
 use Rattle.delivery.specs.Limits.{Limits}
 use Rattle.delivery.specs.Bus.{is_board}
 use Rattle.vote.specs.Boards.{fresh_board, is_started}
@@ -69,12 +72,16 @@ unfolding board_at after_saying with_owed with_signature
 saying-board L c k None j = refl
 saying-board L c k (Some s) j = refl
 
--- a board that is voting is one of the bench's
-pub voting-board : (L : Limits) (c : Bench) (k : ℕ) → length c.boards ≡ L.boards → (board_at L c k).status ≡ Voting
-    → is_board L k ≡ true
-unfolding board_at
-voting-board L c k size v =
-    ⊎_elim
-    (λ t. t)
-    (λ f. absurd (true≢false (sym started-voting ∙ ap is_started (sym v ∙ ap (λ (b : Board). b.status) (nth-none c.boards k (fresh_board L) (λ l. omega (arith, size, within-out L.boards k f l))) ∙ fresh-status L) ∙ idle-unstarted)))
-    (decided (is_board L k))
+-- a board that is voting is one of the list's: a fresh one is not voting
+voting-there : (L : Limits) (bs : List Board) (k : ℕ) → (nth bs k (fresh_board L)).status ≡ Voting → (1 ≤ k → length bs < k) → ⊥
+voting-there L bs k v out =
+    true≢false
+    (sym started-voting
+    ∙ ap is_started (sym v ∙ ap (λ (b : Board). b.status) (nth-none bs k (fresh_board L) out) ∙ fresh-status L)
+    ∙ idle-unstarted)
+
+pub voting-low : (L : Limits) (bs : List Board) (k : ℕ) → (nth bs k (fresh_board L)).status ≡ Voting → 1 ≤ k
+voting-low L bs k v = elim (cases_lt 0 k) [ inl l ↦ omega (arith, l) | inr h ↦ absurd (voting-there L bs k v (λ l. omega (arith, l, h))) ]
+
+pub voting-high : (L : Limits) (bs : List Board) (k : ℕ) → (nth bs k (fresh_board L)).status ≡ Voting → k ≤ length bs
+voting-high L bs k v = elim (cases_lt (length bs) k) [ inl l ↦ absurd (voting-there L bs k v (λ _. l)) | inr h ↦ omega (arith, h) ]

@@ -1,6 +1,9 @@
 ghost use Rattle.std.specs.Prelude.{◌≡◌};
 ghost use Rattle.delivery.specs.Limits.{limits};
+ghost use Rattle.signer.specs.FromOne.{nth};
+ghost use Rattle.delivery.specs.Delivered.{heard};
 ghost use Rattle.delivery.specs.Owed.{receivers};
+ghost use Rattle.vote.specs.Boards.{fresh_board};
 ghost use Rattle.bench.specs.Benches.{is_sound, board_at, signer_at, heard_by, signed_by, holders};
 
 use delivery::{BoardSet, Delivered, Owed};
@@ -15,6 +18,21 @@ pub struct Bench {
     pub boards: [Board; Bench::BOARDS as usize],
     pub signers: [Signer; Bench::BOARDS as usize],
     pub owed: Owed,
+}
+
+// What board k of a list has delivered from a speaker under an identifier, as a log's entry; nothing where there is no
+// board k.
+#[tactic(auto, using(crate::proofs::Rules::rules_bench_heard_by))]
+fn heard_by(boards: &[Board], k: u8, speaker: u8, id: Identifier) -> u32
+    ensures { result ≡ heard limits (nth boards.now k (fresh_board limits)).delivered speaker id.0 }
+{
+    if k == 0 {
+        return 0;
+    }
+    if k as usize > boards.len() {
+        return 0;
+    }
+    boards[k as usize - 1].delivered.entry(speaker, id)
 }
 
 impl Bench {
@@ -45,10 +63,11 @@ impl Bench {
     }
 
     // What board k has delivered from a speaker under an identifier, as a log's entry.
+    #[tactic(auto, unfolding(crate::specs::Benches::board_at))]
     pub fn delivered(&self, k: u8, speaker: u8, id: Identifier) -> u32
         ensures { result ≡ heard_by limits self.now k speaker id.0 }
     {
-        self.board(k).delivered.entry(speaker, id)
+        heard_by(&self.boards, k, speaker, id)
     }
 
     // What board k's signer has signed under an identifier, as a log's entry.

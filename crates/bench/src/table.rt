@@ -1,6 +1,9 @@
 ghost use Rattle.std.specs.Prelude.{◌≡◌, Ok, Err, IfOk, IfErr};
 ghost use Rattle.std.specs.Prelude.{if◌then◌else◌};
+ghost use Rattle.signer.specs.FromOne.{nth};
 ghost use Rattle.delivery.specs.Limits.{limits};
+ghost use Rattle.vote.specs.Boards.{fresh_board};
+ghost use Rattle.vote.specs.declared.board.Status.TheVariants.{Voting};
 ghost use Rattle.bench.specs.Events.{turning, kind_number};
 ghost use Rattle.bench.specs.Benches.{IsVoting, move_at, said_at};
 ghost use Rattle.bench.specs.declared.answer.Refusal.TheVariants.{MustWait};
@@ -11,7 +14,7 @@ use crate::bench::Bench;
 use crate::event::{Event, Kind};
 use delivery::{Round, bus};
 use signer::{Identifier, Log, Signer, from_one};
-use vote::{Move, Statement};
+use vote::{Board, Move, Statement};
 
 // A row of the table: the event is refused so where it applies.
 fn refuse_if(applies: bool, refusal: Refusal) -> Result<(), Refusal>
@@ -79,6 +82,15 @@ fn refuses(signer: &Signer, said: Option<Statement>) -> bool
         Some(s) => !signer.grants(s.id),
         None => false,
     }
+}
+
+// Board k of a list, which is voting, and so one of the list's.
+#[tactic(auto, using(crate::proofs::Rules::rules_table_voting))]
+fn voting(boards: &[Board], k: u8) -> &Board
+    requires { (nth boards.now k (fresh_board limits)).status ≡ Voting }
+    ensures { result.now ≡ nth boards.now k (fresh_board limits) }
+{
+    &boards[k as usize - 1]
 }
 
 // What it asks of the bench.
@@ -170,12 +182,12 @@ impl Bench {
     }
 
     // What board k, which is voting, does and says in its turn, unless it waits, or its signer refuses what it says.
-    #[tactic(auto, using(crate::proofs::Rules::rules_bench_bench_next_move))]
+    #[tactic(auto, using(crate::proofs::Rules::rules_bench_bench_next_move), unfolding(crate::specs::Benches::board_at))]
     pub(crate) fn next_move(&self, k: u8) -> Result<(Move, Option<Statement>), Refusal>
         requires { IsVoting limits self.now k }
         ensures { result ≡ (if must_wait limits self.now k then Err MustWait else Ok (move_at limits self.now k, said_at limits self.now k)) }
     {
-        let board = self.board(k);
+        let board = voting(&self.boards, k);
         let step = board.next_move(self.n, k);
         let said = step.said(k, board.position.round);
         if step == Move::Waits || refuses(&self.signer(k), said) {
