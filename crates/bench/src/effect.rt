@@ -89,7 +89,8 @@ impl Bench {
         ensures { self.new ≡ after_hearing limits self.old k s }
     {
         let have = self.holders(s.speaker, s.id);
-        self.owed.record_delivery(k, s.speaker, s.id, self.sound, have);
+        self.owed
+            .record_delivery(k, s.speaker, s.id, self.sound, have);
         if Delivered::is_board(k) {
             self.boards[k as usize - 1].deliver(s);
         }

@@ -81,7 +81,7 @@ returns c =
     let out : List Event → List ℕ = λ (es : List Event). written (answers_to limits f es) a.answers.now in
     let run : (c.if-is_ok.bench ≡ after limits f (played_by c.ending_of-ending.result bs)) × (c.if-is_ok.answers ≡ out (played_by c.ending_of-ending.result bs)) =
     elim c.if-is_ok.branch [
-      then-is_ok w ↦
+      | then-is_ok w ↦
           (let p = sym (some a.n a.marks bs a.answers.now _ _ made went (tested ∙ w.if-is_ok.true)) in
           (w.bench-is ∙ w.run.ensures.bench ∙ ap (after limits f) p, w.answers-is ∙ w.run.ensures.answers ∙ ap out p))
       | else-is_ok w ↦
