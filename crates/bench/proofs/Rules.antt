@@ -4,7 +4,7 @@ use Rattle.bench.proofs.Demands.{agreed, history_from}
 use Rattle.bench.proofs.RunLaws.{after_next, after_none, answers-none, answers_next, history-written, length-answers, length-events, length-written, played-fits, played-room, sets-written}
 use Rattle.bench.proofs.SetupLaws.{limits-ground, marks-none, marks-next, marks-fail}
 use Rattle.bench.proofs.BenchLaws.{nobody-heard, beyond-heard}
-use Rattle.bench.proofs.TableLaws.{check-event, check-kind, check-state, check-turn, kind-known, not_same}
+use Rattle.bench.proofs.TableLaws.{kind-passes, kind-stops, check-event, check-kind, check-state, check-turn, kind-known, not_same}
 use Rattle.bench.proofs.TurnLaws.{voting-high, voting-low, saying-board, turn-made, wait-neither, wait-refuses, wait-waits}
 use Rattle.delivery.proofs.SetLaws.{set-leave, set-none, set-take}
 use Rattle.delivery.proofs.TestLaws.{and-no-left, and-no-right, and-yes-left, neg-in, neg-no, or-no-left, or-no-right, or_left, or_no, or_right}
@@ -18,6 +18,8 @@ pub ruleset rules_tests = (and-yes-left, and-no-left, and-no-right, or_left, or_
 pub ruleset rules_bench_heard_by = (nth-any, nobody-heard, beyond-heard)
 
 pub ruleset rules_table_voting = (voting-low, voting-high, nth-any)
+
+pub ruleset rules_event_event_known = (kind-known, kind-passes, kind-stops, if-true, if-false)
 
 pub ruleset rules_bench_bench_fresh = (if-true, if-false, within-high)
 
@@ -34,8 +36,6 @@ pub ruleset rules_bench_bench_play = (length-answers, length-written, played-fit
 pub ruleset rules_bench_bench_run = (length-events, length-answers, after_next, answers_next, after_none, answers-none, sets-written)
 
 pub ruleset rules_bench_bench_shown = (if-true, if-false)
-
-pub ruleset rules_bench_bench_check_rows = (kind-known, check-kind, check-event, check-state, check-turn)
 
 pub ruleset rules_bench_bench_step = (step-done, step-kept, step-answer)
 

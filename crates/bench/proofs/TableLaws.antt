@@ -22,7 +22,7 @@ use Rattle.vote.specs.declared.board.Status.TheVariants.{Voting}
 use Rattle.vote.proofs.StatusLaws.{going-voting}
 use Rattle.bench.specs.declared.bench.Bench.{Bench}
 use Rattle.bench.specs.declared.event.Event.{Event}
-use Rattle.std.specs.Prelude.{Ok, Err}
+use Rattle.std.specs.Prelude.{Result, Ok, Err, if◌then◌else◌}
 use Rattle.bench.specs.declared.answer.Refusal.{Refusal}
 use Rattle.bench.specs.declared.answer.Refusal.TheVariants.{NoKind}
 use Rattle.delivery.specs.Limits.{Limits}
@@ -142,37 +142,60 @@ kind-none : (n : ℕ) (r : Refusal) → kind_of n ≡ Err r → (r ≡ NoKind) �
 unfolding kind_of
 kind-none n r h = (grind (arith, nat_tests, h), λ l u. grind (arith, nat_tests, h, l, u))
 
-kind-passes : (e : Event) (k : Kind) → kind_of e.kind ≡ Ok k → kind_row e ≡ false
+pub kind-passes : (e : Event) (k : Kind) → kind_of e.kind ≡ Ok k → kind_row e ≡ false
 unfolding kind_row
 kind-passes e k h =
     let n = kind-known e.kind k h in
     neg-no _ (within_in signing e.kind (omega (arith, n, (kind-within k).0)) (omega (arith, n, (kind-within k).1)))
 
+-- and row 10 stops an event of no kind
+pub kind-stops : (e : Event) (r : Refusal) → kind_of e.kind ≡ Err r → (kind_row e ≡ true) × (r ≡ NoKind)
+unfolding kind_row
+kind-stops e r h =
+    let none = kind-none e.kind r h in (
+      neg-in _ (fails _ (λ w. none.1 (within_low signing e.kind w) (within-high signing e.kind w))),
+      none.0,
+    )
+
+-- what the table gives where a row before the last stops the event, and where none of them does; k is the event with its
+-- kind told
 module _ (L : Limits) (c : Bench) (e : Event) where
-  pub check-kind : (r : Refusal) → kind_of e.kind ≡ Err r → check_of L c e ≡ Err r
-  unfolding check_of kind_row
-  check-kind r h =
-      let none = kind-none e.kind r h in
-      first-takes _ _ _ (neg-in _ (fails _ (λ w. none.1 (within_low signing e.kind w) (within-high signing e.kind w))))
-      ∙ ap Err (sym none.0)
+  abbrev told : Result Event Refusal
+  told = if kind_row e then Err NoKind else Ok e
 
-  module _ (k : Kind) (known : kind_of e.kind ≡ Ok k) where
-    pub check-event : (r : Refusal) → first_of (event_rows L c e) ≡ Err r → check_of L c e ≡ Err r
-    unfolding check_of
-    check-event r h = first-skips _ _ _ (kind-passes e k known) ∙ rows-refuse (event_rows L c e) (state_rows L c e ++ turn_rows L c e) r h
+  told-so : (k : Event) → told ≡ Ok k → (kind_row e ≡ false) × (k ≡ e)
+  told-so k h = (grind (arith, h), grind (arith, h))
 
-    pub check-state : (u : Unit {0}) (r : Refusal) → first_of (event_rows L c e) ≡ Ok u → first_of (state_rows L c e) ≡ Err r
-        → check_of L c e ≡ Err r
-    unfolding check_of
-    check-state u r p h =
-        first-skips _ _ _ (kind-passes e k known)
-        ∙ rows-pass (event_rows L c e) (state_rows L c e ++ turn_rows L c e) u p
-        ∙ rows-refuse (state_rows L c e) (turn_rows L c e) r h
+  pub check-kind : (r : Refusal) → told ≡ Err r → check_of L c e ≡ Err r
+  unfolding check_of first_of
+  check-kind r h = grind (arith, h)
 
-    pub check-turn : (u v : Unit {0}) → first_of (event_rows L c e) ≡ Ok u → first_of (state_rows L c e) ≡ Ok v
-        → check_of L c e ≡ first_of (turn_rows L c e)
+  module _ (k : Event) (known : told ≡ Ok k) where
+    passes : check_of L c e ≡ first_of (event_rows L c e ++ (state_rows L c e ++ turn_rows L c e))
     unfolding check_of
-    check-turn u v p q =
-        first-skips _ _ _ (kind-passes e k known)
-        ∙ rows-pass (event_rows L c e) (state_rows L c e ++ turn_rows L c e) u p
-        ∙ rows-pass (state_rows L c e) (turn_rows L c e) v q
+    passes = first-skips _ _ _ (told-so k known).0
+
+    pub check-event : (r : Refusal) → first_of (event_rows L c k) ≡ Err r → check_of L c e ≡ Err r
+    check-event r h =
+        passes
+        ∙ rows-refuse (event_rows L c e) (state_rows L c e ++ turn_rows L c e) r (ap (λ (x : Event). first_of (event_rows L c x)) (sym (told-so k known).1) ∙ h)
+
+    module _ (u : Unit {0}) (p : first_of (event_rows L c k) ≡ Ok u) where
+      goes_on : check_of L c e ≡ first_of (state_rows L c e ++ turn_rows L c e)
+      goes_on =
+          passes
+          ∙ rows-pass (event_rows L c e) (state_rows L c e ++ turn_rows L c e) u (ap (λ (x : Event). first_of (event_rows L c x)) (sym (told-so k known).1) ∙ p)
+
+      pub check-state : (r : Refusal) → first_of (state_rows L c k) ≡ Err r → check_of L c e ≡ Err r
+      check-state r h =
+          goes_on
+          ∙ rows-refuse (state_rows L c e) (turn_rows L c e) r (ap (λ (x : Event). first_of (state_rows L c x)) (sym (told-so k known).1) ∙ h)
+
+      pub check-turn : (v : Unit {0}) → first_of (state_rows L c k) ≡ Ok v
+          → (k ≡ e) × (e.kind ≡ turning → (board_at L c e.a).status ≡ Voting) × (check_of L c e ≡ first_of (turn_rows L c e))
+      check-turn v q =
+          let state : first_of (state_rows L c e) ≡ Ok v = ap (λ (x : Event). first_of (state_rows L c x)) (sym (told-so k known).1) ∙ q in (
+            (told-so k known).1,
+            state-voting L c e v state,
+            goes_on ∙ rows-pass (state_rows L c e) (turn_rows L c e) v state,
+          )

@@ -3,15 +3,14 @@ ghost use Rattle.std.specs.Prelude.{if◌then◌else◌};
 ghost use Rattle.delivery.specs.Limits.{limits};
 ghost use Rattle.vote.specs.Turns.{take};
 ghost use Rattle.bench.specs.Benches.{board_at, IsVoting};
-ghost use Rattle.bench.specs.Events.{turning, kind_number};
-ghost use Rattle.bench.specs.declared.event.Kind.TheVariants.{Turn, Deliver, Sign};
+ghost use Rattle.bench.specs.Events.{turning, delivering, signing};
 ghost use Rattle.bench.specs.declared.answer.Refusal.TheVariants.{MustWait};
 ghost use Rattle.bench.specs.Table.{must_wait, turn_rows, first_of};
 ghost use Rattle.bench.specs.Effects.{with_board_at, with_signature, after_saying, after_turn, brought, after_hearing, effect_of, step_of};
 
 use crate::answer::Refusal;
 use crate::bench::Bench;
-use crate::event::{Event, Kind};
+use crate::event::{Event, Kind, Known};
 use delivery::{Delivered, Round};
 use signer::Identifier;
 use vote::{Move, Statement};
@@ -23,10 +22,10 @@ pub struct Outcome {
     pub answer: Result<(), Refusal>,
 }
 
-impl Event {
+impl Known {
     // The statement that a delivery brings.
-    fn brought(self) -> Statement
-        ensures { result ≡ brought self }
+    fn brought(&self) -> Statement
+        ensures { result ≡ brought self.now }
     {
         Statement {
             speaker: self.b,
@@ -98,17 +97,16 @@ impl Bench {
 
     // Board a starts, is told of a decision, suspects or trusts, by the event's kind.
     #[tactic(auto, using(crate::proofs::Rules::rules_bench_bench_put), unfolding(crate::specs::Benches::board_at, crate::specs::Effects::effect_of, crate::specs::Effects::with_board_at, crate::specs::Events::kind_number))]
-    fn tell(&mut self, kind: Kind, e: Event)
-        requires known { kind_number kind ≡ e.kind }
-        requires told { (kind ≢ Turn) × (kind ≢ Deliver) × (kind ≢ Sign) }
-        ensures { self.new ≡ effect_of limits self.old e }
+    fn tell(&mut self, e: &Known)
+        requires { (e.now.kind ≢ turning) × (e.now.kind ≢ delivering) × (e.now.kind ≢ signing) }
+        ensures { self.new ≡ effect_of limits self.old e.now }
     {
         if !Delivered::is_board(e.a) {
             return;
         }
         let n = self.n;
         let board = &mut self.boards[e.a as usize - 1];
-        match kind {
+        match e.kind {
             Kind::Propose => board.propose(e.value),
             Kind::Announce => board.announce(n, Round(e.id), e.value),
             Kind::Suspect => board.suspect(e.b),
@@ -117,20 +115,19 @@ impl Bench {
         }
     }
 
-    // What an event of this kind does that no row before the last applies to.
+    // What an event does that no row before the last applies to.
     #[tactic(auto, using(crate::proofs::Rules::rules_tests), unfolding(crate::specs::Effects::effect_of, crate::specs::Table::turn_row, crate::specs::Events::kind_number, crate::specs::Table::first_of))]
-    fn effect(&mut self, kind: Kind, e: Event) -> Result<(), Refusal>
-        requires known { kind_number kind ≡ e.kind }
-        requires voting { e.kind ≡ turning → IsVoting limits self.old e.a }
-        ensures answer { result ≡ first_of (turn_rows limits self.old e) }
-        ensures ok { OnOk result (self.new ≡ effect_of limits self.old e) }
+    fn effect(&mut self, e: &Known) -> Result<(), Refusal>
+        requires { e.now.kind ≡ turning → IsVoting limits self.old e.now.a }
+        ensures answer { result ≡ first_of (turn_rows limits self.old e.now) }
+        ensures ok { OnOk result (self.new ≡ effect_of limits self.old e.now) }
         ensures err { OnErr result (self.new ≡ self.old) }
     {
-        match kind {
+        match e.kind {
             Kind::Turn => self.turn(e.a)?,
             Kind::Deliver => self.hear(e.a, e.brought()),
             Kind::Sign => self.sign(e.a, Identifier(e.id), e.value),
-            _ => self.tell(kind, e),
+            _ => self.tell(e),
         }
         Ok(())
     }
@@ -141,8 +138,8 @@ impl Bench {
         ensures answer { result ≡ (step_of limits self.old e).answer }
         ensures bench { self.new ≡ (step_of limits self.old e).bench }
     {
-        let kind = self.check_rows(e)?;
-        self.effect(kind, e)
+        let known = self.check_rows(e)?;
+        self.effect(&known)
     }
 
     // One event, by value.

@@ -1,7 +1,11 @@
-ghost use Rattle.std.specs.Prelude.{◌≡◌, get_or};
+ghost use Rattle.std.specs.Prelude.{◌≡◌, Ok, Err, get_or};
+ghost use Rattle.std.specs.Prelude.{if◌then◌else◌};
+ghost use Rattle.bench.specs.Table.{kind_row};
+ghost use Rattle.bench.specs.declared.answer.Refusal.TheVariants.{NoKind};
 ghost use Rattle.bench.specs.Events.{kind_number, kind_of, uses_other, uses_id, uses_value, high_first, event_from};
 
 use crate::answer::Refusal;
+use std::marker::Model;
 
 // The kinds of events, by their numbers in a schedule.
 #[derive(Clone, Copy, Debug, PartialEq, Eq)]
@@ -23,6 +27,25 @@ pub struct Event {
     pub b: u8,
     pub id: u8,
     pub value: u16,
+}
+
+// An event of a kind that there is. In contracts it is that event.
+#[derive(Drop)]
+pub(crate) struct Known {
+    pub(crate) kind: Kind,
+    pub(crate) a: u8,
+    pub(crate) b: u8,
+    pub(crate) id: u8,
+    pub(crate) value: u16,
+}
+
+impl Model for Known {
+    ghost use Rattle.bench.specs.Events.{kind_number};
+    ghost use Rattle.bench.specs.declared.event.Event.{Event};
+
+    ghost Value = { Event };
+
+    ghost view = { λ e. record { kind = kind_number e.kind; a = e.a; b = e.b; id = e.id; value = e.value } };
 }
 
 impl TryFrom<u8> for Kind {
@@ -104,5 +127,19 @@ impl Event {
             id: byte(bytes, 3),
             value: Event::high_first(byte(bytes, 4), byte(bytes, 5)),
         }
+    }
+
+    // With its kind told; refused where that is none.
+    #[tactic(auto, using(crate::proofs::Rules::rules_event_event_known))]
+    pub(crate) fn known(self) -> Result<Known, Refusal>
+        ensures { result ≡ (if kind_row self then Err NoKind else Ok self) }
+    {
+        Ok(Known {
+            kind: Kind::try_from(self.kind)?,
+            a: self.a,
+            b: self.b,
+            id: self.id,
+            value: self.value,
+        })
     }
 }

@@ -4,14 +4,14 @@ ghost use Rattle.signer.specs.FromOne.{nth};
 ghost use Rattle.delivery.specs.Limits.{limits};
 ghost use Rattle.vote.specs.Boards.{fresh_board};
 ghost use Rattle.vote.specs.declared.board.Status.TheVariants.{Voting};
-ghost use Rattle.bench.specs.Events.{turning, kind_number};
+ghost use Rattle.bench.specs.Events.{turning};
 ghost use Rattle.bench.specs.Benches.{IsVoting, move_at, said_at};
 ghost use Rattle.bench.specs.declared.answer.Refusal.TheVariants.{MustWait};
 ghost use Rattle.bench.specs.Table.{boards_row, wrong_other, wrong_id, wrong_value, fields_row, mark_row, pair_row, start_row, end_row, signed_row, last_row, delivered_row, announcer_row, ballots_row, refuses, must_wait, first_of, event_rows, state_rows, turn_rows, check_of};
 
 use crate::answer::Refusal;
 use crate::bench::Bench;
-use crate::event::{Event, Kind};
+use crate::event::{Event, Kind, Known};
 use delivery::{Round, bus};
 use signer::{Identifier, Log, Signer, from_one};
 use vote::{Board, Move, Statement};
@@ -23,22 +23,20 @@ fn refuse_if(applies: bool, refusal: Refusal) -> Result<(), Refusal>
     if applies { Err(refusal) } else { Ok(()) }
 }
 
-// What the table asks of an event of a kind alone.
-impl Event {
+// What the table asks of the event alone.
+impl Known {
     #[tactic(auto, using(crate::proofs::Rules::rules_tests), unfolding(crate::specs::Table::wrong_other))]
-    fn wrong_other(self, kind: Kind) -> bool
-        requires { kind_number kind ≡ self.kind }
-        ensures { result ≡ wrong_other self }
+    fn wrong_other(&self) -> bool
+        ensures { result ≡ wrong_other self.now }
     {
-        !kind.uses_other() && self.b != 0
+        !self.kind.uses_other() && self.b != 0
     }
 
     #[tactic(auto, using(crate::proofs::Rules::rules_tests), unfolding(crate::specs::Table::wrong_id, crate::specs::Events::uses_id, crate::specs::Events::kind_number))]
-    fn wrong_id(self, kind: Kind) -> bool
-        requires { kind_number kind ≡ self.kind }
-        ensures { result ≡ wrong_id limits self }
+    fn wrong_id(&self) -> bool
+        ensures { result ≡ wrong_id limits self.now }
     {
-        match kind {
+        match self.kind {
             Kind::Announce => !Round(self.id).in_range(),
             Kind::Deliver | Kind::Sign => !Identifier(self.id).in_range(),
             _ => self.id != 0,
@@ -46,30 +44,27 @@ impl Event {
     }
 
     #[tactic(auto, using(crate::proofs::Rules::rules_tests), unfolding(crate::specs::Table::wrong_value, crate::specs::Events::uses_value, crate::specs::Events::uses_id, crate::specs::Events::kind_number))]
-    fn wrong_value(self, kind: Kind) -> bool
-        requires { kind_number kind ≡ self.kind }
-        ensures { result ≡ wrong_value self }
+    fn wrong_value(&self) -> bool
+        ensures { result ≡ wrong_value self.now }
     {
-        match kind {
+        match self.kind {
             Kind::Propose | Kind::Announce => self.value == Log::BLANK,
-            _ => !kind.uses_value() && self.value != 0,
+            _ => !self.kind.uses_value() && self.value != 0,
         }
     }
 
     #[tactic(auto, using(crate::proofs::Rules::rules_tests), unfolding(crate::specs::Table::fields_row))]
-    fn fields_row(self, kind: Kind) -> bool
-        requires { kind_number kind ≡ self.kind }
-        ensures { result ≡ fields_row limits self }
+    fn fields_row(&self) -> bool
+        ensures { result ≡ fields_row limits self.now }
     {
-        self.wrong_other(kind) || self.wrong_id(kind) || self.wrong_value(kind)
+        self.wrong_other() || self.wrong_id() || self.wrong_value()
     }
 
     #[tactic(auto, using(crate::proofs::Rules::rules_tests), unfolding(crate::specs::Table::pair_row, crate::specs::Events::kind_number))]
-    fn pair_row(self, kind: Kind) -> bool
-        requires { kind_number kind ≡ self.kind }
-        ensures { result ≡ pair_row self }
+    fn pair_row(&self) -> bool
+        ensures { result ≡ pair_row self.now }
     {
-        matches!(kind, Kind::Announce | Kind::Suspect | Kind::Trust) && self.a == self.b
+        matches!(self.kind, Kind::Announce | Kind::Suspect | Kind::Trust) && self.a == self.b
     }
 }
 
@@ -96,30 +91,27 @@ fn voting(boards: &[Board], k: u8) -> &Board
 // What it asks of the bench.
 impl Bench {
     #[tactic(auto, using(crate::proofs::Rules::rules_tests), unfolding(crate::specs::Table::boards_row))]
-    fn boards_row(&self, kind: Kind, e: Event) -> bool
-        requires { kind_number kind ≡ e.kind }
-        ensures { result ≡ boards_row self.now e }
+    fn boards_row(&self, e: &Known) -> bool
+        ensures { result ≡ boards_row self.now e.now }
     {
-        !from_one::within(e.a, self.n) || kind.uses_other() && !from_one::within(e.b, self.n)
+        !from_one::within(e.a, self.n) || e.kind.uses_other() && !from_one::within(e.b, self.n)
     }
 
     #[tactic(auto, using(crate::proofs::Rules::rules_tests), unfolding(crate::specs::Table::mark_row, crate::specs::Events::kind_number))]
-    fn mark_row(&self, kind: Kind, e: Event) -> bool
-        requires { kind_number kind ≡ e.kind }
-        ensures { result ≡ mark_row self.now e }
+    fn mark_row(&self, e: &Known) -> bool
+        ensures { result ≡ mark_row self.now e.now }
     {
-        match kind {
+        match e.kind {
             Kind::Sign => self.is_sound(e.a),
             _ => !self.is_sound(e.a),
         }
     }
 
     #[tactic(auto, using(crate::proofs::Rules::rules_tests), unfolding(crate::specs::Table::start_row, crate::specs::Events::kind_number))]
-    fn start_row(&self, kind: Kind, e: Event) -> bool
-        requires { kind_number kind ≡ e.kind }
-        ensures { result ≡ start_row limits self.now e }
+    fn start_row(&self, e: &Known) -> bool
+        ensures { result ≡ start_row limits self.now e.now }
     {
-        match kind {
+        match e.kind {
             Kind::Propose => self.board(e.a).is_started(),
             Kind::Turn | Kind::Announce => !self.board(e.a).is_started(),
             _ => false,
@@ -127,11 +119,10 @@ impl Bench {
     }
 
     #[tactic(auto, using(crate::proofs::Rules::rules_tests), unfolding(crate::specs::Table::end_row, crate::specs::Events::kind_number))]
-    fn end_row(&self, kind: Kind, e: Event) -> bool
-        requires { kind_number kind ≡ e.kind }
-        ensures { result ≡ end_row limits self.now e }
+    fn end_row(&self, e: &Known) -> bool
+        ensures { result ≡ end_row limits self.now e.now }
     {
-        match kind {
+        match e.kind {
             Kind::Turn => self.board(e.a).is_ended(),
             Kind::Announce => self.board(e.a).is_decided(),
             _ => false,
@@ -139,45 +130,40 @@ impl Bench {
     }
 
     #[tactic(auto, using(crate::proofs::Rules::rules_tests), unfolding(crate::specs::Table::signed_row, crate::specs::Events::kind_number))]
-    fn signed_row(&self, kind: Kind, e: Event) -> bool
-        requires { kind_number kind ≡ e.kind }
-        ensures { result ≡ signed_row limits self.now e }
+    fn signed_row(&self, e: &Known) -> bool
+        ensures { result ≡ signed_row limits self.now e.now }
     {
-        kind == Kind::Deliver && self.signed(e.b, Identifier(e.id)) != Log::entry_of(e.value)
+        e.kind == Kind::Deliver && self.signed(e.b, Identifier(e.id)) != Log::entry_of(e.value)
     }
 
     #[tactic(auto, using(crate::proofs::Rules::rules_tests), unfolding(crate::specs::Table::last_row, crate::specs::Events::kind_number))]
-    fn last_row(&self, kind: Kind, e: Event) -> bool
-        requires { kind_number kind ≡ e.kind }
-        ensures { result ≡ last_row limits self.now e }
+    fn last_row(&self, e: &Known) -> bool
+        ensures { result ≡ last_row limits self.now e.now }
     {
-        kind == Kind::Sign && e.id <= self.signer(e.a).last.0
+        e.kind == Kind::Sign && e.id <= self.signer(e.a).last.0
     }
 
     #[tactic(auto, using(crate::proofs::Rules::rules_tests), unfolding(crate::specs::Table::delivered_row, crate::specs::Events::kind_number))]
-    fn delivered_row(&self, kind: Kind, e: Event) -> bool
-        requires { kind_number kind ≡ e.kind }
-        ensures { result ≡ delivered_row limits self.now e }
+    fn delivered_row(&self, e: &Known) -> bool
+        ensures { result ≡ delivered_row limits self.now e.now }
     {
-        kind == Kind::Deliver && self.delivered(e.a, e.b, Identifier(e.id)) != 0
+        e.kind == Kind::Deliver && self.delivered(e.a, e.b, Identifier(e.id)) != 0
     }
 
     #[tactic(auto, using(crate::proofs::Rules::rules_tests), unfolding(crate::specs::Table::announcer_row, crate::specs::Events::kind_number))]
-    fn announcer_row(&self, kind: Kind, e: Event) -> bool
-        requires { kind_number kind ≡ e.kind }
-        ensures { result ≡ announcer_row limits self.now e }
+    fn announcer_row(&self, e: &Known) -> bool
+        ensures { result ≡ announcer_row limits self.now e.now }
     {
-        kind == Kind::Announce
+        e.kind == Kind::Announce
             && self.is_sound(e.b)
             && !self.board(e.b).has_decided(Round(e.id), e.value)
     }
 
     #[tactic(auto, using(crate::proofs::Rules::rules_tests), unfolding(crate::specs::Table::ballots_row, crate::specs::Events::kind_number))]
-    fn ballots_row(&self, kind: Kind, e: Event) -> bool
-        requires { kind_number kind ≡ e.kind }
-        ensures { result ≡ ballots_row limits self.now e }
+    fn ballots_row(&self, e: &Known) -> bool
+        ensures { result ≡ ballots_row limits self.now e.now }
     {
-        kind == Kind::Announce
+        e.kind == Kind::Announce
             && self.board(e.a).tally(self.n, Round(e.id), e.value) < bus::quorum(self.n)
     }
 
@@ -198,41 +184,38 @@ impl Bench {
 
     // The rows about the event and the marks, of an event of this kind.
     #[tactic(auto, unfolding(crate::specs::Table::first_of))]
-    fn check_event(&self, kind: Kind, e: Event) -> Result<(), Refusal>
-        requires { kind_number kind ≡ e.kind }
-        ensures { result ≡ first_of (event_rows limits self.now e) }
+    fn check_event(&self, e: &Known) -> Result<(), Refusal>
+        ensures { result ≡ first_of (event_rows limits self.now e.now) }
     {
-        refuse_if(self.boards_row(kind, e), Refusal::NoBoard)?;
-        refuse_if(e.fields_row(kind), Refusal::WrongField)?;
-        refuse_if(self.mark_row(kind, e), Refusal::WrongMark)?;
-        refuse_if(e.pair_row(kind), Refusal::SameBoard)
+        refuse_if(self.boards_row(e), Refusal::NoBoard)?;
+        refuse_if(e.fields_row(), Refusal::WrongField)?;
+        refuse_if(self.mark_row(e), Refusal::WrongMark)?;
+        refuse_if(e.pair_row(), Refusal::SameBoard)
     }
 
     // The rows about the boards and signers that it names, but for the last.
     #[tactic(auto, unfolding(crate::specs::Table::first_of))]
-    fn check_state(&self, kind: Kind, e: Event) -> Result<(), Refusal>
-        requires { kind_number kind ≡ e.kind }
-        ensures { result ≡ first_of (state_rows limits self.now e) }
+    fn check_state(&self, e: &Known) -> Result<(), Refusal>
+        ensures { result ≡ first_of (state_rows limits self.now e.now) }
     {
-        refuse_if(self.start_row(kind, e), Refusal::WrongStart)?;
-        refuse_if(self.end_row(kind, e), Refusal::AtEnd)?;
-        refuse_if(self.signed_row(kind, e), Refusal::NotSigned)?;
-        refuse_if(self.last_row(kind, e), Refusal::NotAbove)?;
-        refuse_if(self.delivered_row(kind, e), Refusal::AlreadyDelivered)?;
-        refuse_if(self.announcer_row(kind, e), Refusal::NotDecided)?;
-        refuse_if(self.ballots_row(kind, e), Refusal::FewBallots)
+        refuse_if(self.start_row(e), Refusal::WrongStart)?;
+        refuse_if(self.end_row(e), Refusal::AtEnd)?;
+        refuse_if(self.signed_row(e), Refusal::NotSigned)?;
+        refuse_if(self.last_row(e), Refusal::NotAbove)?;
+        refuse_if(self.delivered_row(e), Refusal::AlreadyDelivered)?;
+        refuse_if(self.announcer_row(e), Refusal::NotDecided)?;
+        refuse_if(self.ballots_row(e), Refusal::FewBallots)
     }
 
-    // All rows but the last, which is about what comes of a turn; the event's kind where none of them applies.
-    #[tactic(auto, using(crate::proofs::Rules::rules_bench_bench_check_rows))]
-    pub(crate) fn check_rows(&self, e: Event) -> Result<Kind, Refusal>
-        ensures passed { IfOk result (λ kind. (kind_number kind ≡ e.kind) × (e.kind ≡ turning → IsVoting limits self.now e.a) × (check_of limits self.now e ≡ first_of (turn_rows limits self.now e))) }
+    // All rows but the last, which is about what comes of a turn; the event where none of them applies.
+    pub(crate) fn check_rows(&self, e: Event) -> Result<Known, Refusal>
+        ensures passed { IfOk result (λ k. (k ≡ e) × (e.kind ≡ turning → IsVoting limits self.now e.a) × (check_of limits self.now e ≡ first_of (turn_rows limits self.now e))) }
         ensures refused { IfErr result (λ refusal. check_of limits self.now e ≡ Err refusal) }
     {
-        let kind = Kind::try_from(e.kind)?;
-        self.check_event(kind, e)?;
-        self.check_state(kind, e)?;
-        Ok(kind)
+        let known = e.known()?;
+        self.check_event(&known)?;
+        self.check_state(&known)?;
+        Ok(known)
     }
 
     // The first row of the table that applies.
@@ -240,9 +223,9 @@ impl Bench {
     pub fn check(&self, e: Event) -> Result<(), Refusal>
         ensures { result ≡ check_of limits self.now e }
     {
-        let kind = self.check_rows(e)?;
-        if kind == Kind::Turn {
-            self.next_move(e.a)?;
+        let known = self.check_rows(e)?;
+        if known.kind == Kind::Turn {
+            self.next_move(known.a)?;
         }
         Ok(())
     }
