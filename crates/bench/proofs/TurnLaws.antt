@@ -6,7 +6,7 @@ use mathlib.Core.Bool.{true, false, true≢false}
 use mathlib.Core.Logic.{inl, inr}
 use mathlib.Core.List.{List}
 use Rattle.std.proofs.lemmas.Bool.{cases_lt}
-use Rattle.delivery.proofs.TestLaws.{or_left, or_right, or_no, decided}
+use Rattle.delivery.proofs.TestLaws.{or_left, or_right, or_no}
 use Rattle.vote.proofs.BoardLaws.{fresh-status}
 use Rattle.vote.proofs.StatusLaws.{started-voting, idle-unstarted}
 use Rattle.vote.specs.declared.statement.Statement.{Statement}
@@ -15,7 +15,6 @@ use Rattle.std.specs.Prelude.{Option, None, Some}
 use Rattle.signer.specs.FromOne.{nth}
 use Rattle.signer.proofs.FromOneLaws.{nth-none}
 use Rattle.delivery.specs.Limits.{Limits}
-use Rattle.delivery.specs.Bus.{is_board}
 use Rattle.vote.specs.Boards.{fresh_board, is_started}
 use Rattle.vote.specs.Turns.{take, turn}
 use Rattle.vote.specs.declared.board.Board.{Board}

@@ -15,7 +15,8 @@ use delivery::{Delivered, Round};
 use signer::Identifier;
 use vote::{Move, Statement};
 
-// What comes of an event: the bench afterwards, and the answer.
+// What comes of an event: the bench afterwards, and the answer. It is no `Result` of a bench, since a refused event leaves
+// one too.
 #[derive(Clone, Copy)]
 pub struct Outcome {
     pub bench: Bench,
@@ -142,7 +143,7 @@ impl Bench {
         self.effect(&known)
     }
 
-    // One event, by value.
+    // One event, by value, as document 01 names it; what is played within goes by `step`.
     pub fn event(mut self, e: Event) -> Outcome
         ensures { result ≡ step_of limits self e }
     {
@@ -153,7 +154,8 @@ impl Bench {
         }
     }
 
-    // One event, on a bench that is lent: the answer is returned, and the bench left as it is afterwards.
+    // One event, on a bench that is lent: the answer is returned, and the bench left as it is afterwards. It forwards to
+    // `event`, as document 01 has it.
     pub fn apply(&mut self, e: Event) -> Result<(), Refusal>
         ensures { (result ≡ (step_of limits self.old e).answer) × (self.new ≡ (step_of limits self.old e).bench) }
     {

@@ -19,7 +19,7 @@ pub enum Kind {
     Sign,
 }
 
-// An event as it stands in a schedule, whatever its fields hold.
+// An event as it stands in a schedule, whatever its fields hold. Its kind stays a number, since a schedule may hold any.
 #[derive(Clone, Copy, Debug, PartialEq, Eq)]
 pub struct Event {
     pub kind: u8,
@@ -108,7 +108,7 @@ impl Event {
     // The bytes of an event in a list of them.
     pub const BYTES: usize = 6;
 
-    // A number in two bytes, the high one first.
+    // A number in two bytes, the high one first. It stays beside `u16::from_be_bytes`, since callers have its contract.
     pub fn high_first(high: u8, low: u8) -> u16
         ensures { result ≡ high_first high low }
     {

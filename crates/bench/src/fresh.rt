@@ -12,7 +12,8 @@ use delivery::{BoardSet, Delivered, Owed};
 use signer::Signer;
 use vote::Board;
 
-// What comes of the call for a fresh bench: the bench, and the answer.
+// What comes of the call for a fresh bench: the bench, and the answer. It is no `Result` of a bench, since a refused call
+// gives one too.
 #[derive(Clone, Copy)]
 pub struct Fresh {
     pub bench: Bench,

@@ -27,7 +27,7 @@ pub struct Shown {
 }
 
 impl Letter {
-    // The letter, as it is printed.
+    // The letter, as it is printed: a byte, since reports are written into a buffer of bytes.
     #[tactic(auto, unfolding(crate::specs::Shows::letter_byte))]
     pub fn byte(self) -> u8
         ensures { result ≡ letter_byte self }
