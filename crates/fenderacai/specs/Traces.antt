@@ -6,7 +6,7 @@ use Rattle.bench.specs.Answers.{answer_number}
 use Rattle.bench.specs.Effects.{step_of}
 use Rattle.bench.specs.declared.bench.Bench.{Bench}
 use Rattle.bench.specs.declared.event.Event.{Event}
-use Rattle.schedule.specs.Files.{Reading, got, fault, Contents, first_bench, file_due}
+use Rattle.schedule.specs.Files.{Reading, Contents, first_bench, file_due}
 use Rattle.fenderacai.specs.Rows.{row}
 
 -- the rows of a list of events

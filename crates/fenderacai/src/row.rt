@@ -140,5 +140,9 @@ pub(crate) fn put(out: &mut [u32], at: usize, answer: u8, bench: &Bench) -> usiz
     next = put_boards(out, next, bench);
     next = put_table(out, next, |speaker, id| bench.signed(speaker, id));
     next = put_delivered(out, next, bench);
-    put_table(out, next, |speaker, id| bench.owed(speaker, id).bits() as u32)
+    put_table(
+        out,
+        next,
+        |speaker, id| bench.owed(speaker, id).bits() as u32,
+    )
 }

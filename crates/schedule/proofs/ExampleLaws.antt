@@ -7,7 +7,7 @@ use Rattle.signer.specs.Examples.{letter-d}
 use Rattle.delivery.specs.Limits.{limits}
 use Rattle.delivery.specs.Examples.{letter-a, letter-b, letter-c}
 use Rattle.delivery.proofs.ExampleLaws.{letter-e, letter-f, letter-g, letter-h, letter-i, letter-j, letter-k}
-use Rattle.bench.specs.Answers as answers
+use Rattle.bench.specs.Answers.{setup_number}
 use Rattle.bench.specs.Shows.{letter_byte}
 use Rattle.bench.specs.Examples.{alone}
 use Rattle.bench.proofs.ExampleLaws as bench
@@ -56,5 +56,5 @@ letters =
 
 -- the two refused files, by computation
 pub refused-files : RefusedFiles
-unfolding file_due bus_due byte_due next many_due mark_due printed_from refused_line fault_number answers.fault_number decimal decimal_in is_within
+unfolding file_due bus_due byte_due next many_due mark_due printed_from refused_line fault_number setup_number decimal decimal_in is_within
 refused-files = record { nine = refl; one = refl }

@@ -6,7 +6,7 @@ use Rattle.delivery.specs.Limits.{Limits}
 use Rattle.delivery.specs.Bus.{is_board}
 use Rattle.bench.specs.Events.{high_first, event_bytes, event_from}
 use Rattle.bench.specs.Setups.{is_mark, fresh_bench}
-use Rattle.bench.specs.Answers as answers
+use Rattle.bench.specs.Answers.{setup_number}
 use Rattle.bench.specs.declared.bench.Bench.{Bench}
 use Rattle.bench.specs.declared.event.Event.{Event}
 use Rattle.bench.specs.declared.answer.SetupFault.TheVariants as setup
@@ -16,8 +16,8 @@ use Rattle.schedule.specs.declared.fault.Fault.TheVariants.{EndsEarly, NoBus, No
 -- the faults of a file by their numbers in the table; two of them are those of the call for a fresh bench
 unfoldable pub fault_number : Fault → ℕ
 fault_number EndsEarly = 1
-fault_number NoBus = answers.fault_number setup.NoBus
-fault_number NoMark = answers.fault_number setup.NoMark
+fault_number NoBus = setup_number setup.NoBus
+fault_number NoMark = setup_number setup.NoMark
 fault_number TooMany = 4
 fault_number LeftOver = 5
 

@@ -41,7 +41,7 @@ returns c =
     put_then
     (put_then
     (put_then
-    (put_then c.put_words-next.ensures c.put_boards-next.ensures)
+    (put_then (rw c.bits.ensures at c.put_words-next.ensures) c.put_boards-next.ensures)
     (c.put_table-next.ensures (signed_by limits b) (λ s i w _ _ told. search rules)))
     c.put_delivered-next.ensures)
     (c.put_table.ensures (receivers limits b.owed) (λ s i w _ _ told. search rules))

@@ -27,8 +27,8 @@ loop-k-preserved c =
     let at : ℕ = event_bytes * l.k in
     let e : Event = event_from (drop at bs) in
     let event : c.read.result ≡ e = c.read.ensures ∙ ap event_from (part_to_end bs at) in
-    let bench : c.apply-answer.new.self ≡ (step_of limits l.bench e).bench = c.apply-answer.ensures.bench ∙ ap (λ (x : Event). (step_of limits l.bench x).bench) event in
-    let answer : c.number_of.result ≡ answer_number (step_of limits l.bench e).answer = c.number_of.ensures ∙ ap answer_number (c.apply-answer.ensures.answer ∙ ap (λ (x : Event). (step_of limits l.bench x).answer) event) in
+    let bench : c.apply-answer.new.self ≡ (step_of limits l.bench e).bench = c.apply-answer.ensures.1 ∙ ap (λ (x : Event). (step_of limits l.bench x).bench) event in
+    let answer : c.number_of.result ≡ answer_number (step_of limits l.bench e).answer = c.number_of.ensures ∙ ap answer_number (c.apply-answer.ensures.0 ∙ ap (λ (x : Event). (step_of limits l.bench x).answer) event) in
     let put : PutAt (row limits (answer_number (step_of limits l.bench e).answer) (step_of limits l.bench e).bench) l.out l.next c.put-next.new.out c.put-next.result = rw (answer, bench) at c.put-next.ensures in
     let far : event_bytes * (l.k + 1) ≡ at + event_bytes = omega arith in
     record {
