@@ -4,8 +4,9 @@ ghost use Rattle.schedule.specs.Prints.{printed, report_from, buffer_from, repor
 
 use crate::fault::Fault;
 use crate::file::Schedule;
+use crate::player;
 use crate::section::Section;
-use crate::{player, text};
+use crate::text::Text;
 use bench::Bench;
 
 // What a file came to that was read and played: its boards, its events, the answer to each, and the bench after the last.
@@ -58,19 +59,19 @@ impl Report {
 
     // The lines of the events, and then those of the boards.
     #[tactic(auto, using(crate::proofs::Rules::rules_report_report_lines))]
-    fn lines(&self, out: &mut [u8]) -> usize
-        requires { IsWithin limits self.now }
-        ensures within { result ≤ longest_print limits }
-        ensures lines { PutAt (report_lines limits self.now) out.old 0 out.new result }
+    fn lines(&self, text: &mut Text)
+        requires own { IsWithin limits self.now }
+        requires start { text.old.length ≡ 0 }
+        ensures within { text.new.length ≤ longest_print limits }
+        ensures lines { PutAt (report_lines limits self.now) text.old.out.now 0 text.new.out.now text.new.length }
+        ensures same { text.new.out.ghost_name ≡ text.old.out.ghost_name }
     {
-        let mut next = 0usize;
         for (k, answer) in self.answers[..self.count as usize].iter().enumerate() {
-            next = text::event_line(out, next, k as u16 + 1, *answer);
+            text.event_line(k as u16 + 1, *answer);
         }
         for k in 1..=self.n {
-            next = text::board_line(out, next, k, self.bench.shown(k));
+            text.board_line(k, self.bench.shown(k));
         }
-        next
     }
 
     // What is printed: the lines of a file that was played, or the one line of a file that is refused.
@@ -80,10 +81,12 @@ impl Report {
         ensures within { result ≤ longest_print limits }
         ensures text { PutAt (report_text limits report.now) out.old 0 out.new result }
     {
+        let mut text = Text { out, length: 0 };
         match report {
-            Ok(played) => played.lines(out),
-            Err(fault) => text::refused_line(out, *fault),
+            Ok(played) => played.lines(&mut text),
+            Err(fault) => text.refused_line(*fault),
         }
+        text.length
     }
 
     // Reads a file, plays it, and writes to the start of a buffer what is to be printed of it. The rest of the buffer stays;

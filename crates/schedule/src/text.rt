@@ -1,85 +1,97 @@
-ghost use Rattle.std.specs.Prelude.{◌+◌, ◌≤◌, [], ◌∷◌, length};
+ghost use Rattle.std.specs.Prelude.{◌+◌, ◌≤◌, ◌≡◌, [], ◌∷◌, length};
 ghost use Rattle.delivery.specs.Limits.{limits};
 ghost use Rattle.schedule.specs.Prints.{decimal, event_line, board_line, refused_line, PutAt, longest_print};
 
 use crate::fault::Fault;
 use bench::Shown;
 
-// Each of these puts some bytes into a buffer from a place on, as far as the buffer goes, and answers with the place
-// after them. So on an empty buffer they tell how long a text is.
+// A text that is put into a buffer from its start on, as far as the buffer goes, and how long it is so far. So in an empty
+// buffer it tells its length.
+#[derive(Drop)]
+pub(crate) struct Text<'a> {
+    pub(crate) out: &'a mut [u8],
+    pub(crate) length: usize,
+}
 
-// One byte.
-pub(crate) fn put(out: &mut [u8], at: usize, byte: u8) -> usize
-    requires { at + 1 ≤ longest_print limits }
-    ensures { PutAt (byte ∷ []) out.old at out.new result }
-{
-    if at < out.len() {
-        out[at] = byte;
+// Each of these puts some bytes after those that are there.
+impl Text<'_> {
+    // One byte.
+    pub(crate) fn put(&mut self, byte: u8)
+        requires { self.old.length + 1 ≤ longest_print limits }
+        ensures bytes { PutAt (byte ∷ []) self.old.out.now self.old.length self.new.out.now self.new.length }
+        ensures same { self.new.out.ghost_name ≡ self.old.out.ghost_name }
+    {
+        if self.length < self.out.len() {
+            self.out[self.length] = byte;
+        }
+        self.length += 1;
     }
-    at + 1
-}
 
-// A number in decimal. Its digits are put by hand: `format!` needs a heap, and `write!` may fail.
-#[tactic(auto, using(crate::proofs::Rules::rules_text_number))]
-pub(crate) fn number(out: &mut [u8], at: usize, m: u16) -> usize
-    requires { at + length (decimal m) ≤ longest_print limits }
-    ensures { PutAt (decimal m) out.old at out.new result }
-{
-    if m < 10 {
-        return put(out, at, b'0' + m as u8);
+    // A number in decimal. Its digits are put by hand: `format!` needs a heap, and `write!` may fail.
+    #[tactic(auto, using(crate::proofs::Rules::rules_text_number))]
+    pub(crate) fn number(&mut self, m: u16)
+        requires { self.old.length + length (decimal m) ≤ longest_print limits }
+        ensures bytes { PutAt (decimal m) self.old.out.now self.old.length self.new.out.now self.new.length }
+        ensures same { self.new.out.ghost_name ≡ self.old.out.ghost_name }
+    {
+        if m >= 10 {
+            self.number(m / 10);
+        }
+        self.put(b'0' + (m % 10) as u8);
     }
-    let next = number(out, at, m / 10);
-    put(out, next, b'0' + (m % 10) as u8)
-}
 
-// An event's line.
-#[tactic(auto, using(crate::proofs::Rules::rules_text_event_line), unfolding(crate::specs::Prints::event_line))]
-pub(crate) fn event_line(out: &mut [u8], at: usize, k: u16, answer: u8) -> usize
-    requires { at + length (event_line k answer) ≤ longest_print limits }
-    ensures { PutAt (event_line k answer) out.old at out.new result }
-{
-    let mut next = number(out, at, k);
-    next = put(out, next, b' ');
-    next = number(out, next, answer as u16);
-    put(out, next, b'\n')
-}
-
-// A board's line.
-#[tactic(auto, using(crate::proofs::Rules::rules_text_board_line), unfolding(crate::specs::Prints::board_line))]
-pub(crate) fn board_line(out: &mut [u8], at: usize, k: u8, shown: Shown) -> usize
-    requires { at + length (board_line k shown) ≤ longest_print limits }
-    ensures { PutAt (board_line k shown) out.old at out.new result }
-{
-    let mut next = number(out, at, k as u16);
-    next = put(out, next, b' ');
-    next = put(out, next, shown.letter.byte());
-    next = put(out, next, b' ');
-    next = number(out, next, shown.round.0 as u16);
-    next = put(out, next, b' ');
-    next = number(out, next, shown.value);
-    put(out, next, b'\n')
-}
-
-// A text as it stands.
-#[tactic(auto, using(crate::proofs::Rules::rules_text_word))]
-pub(crate) fn word(out: &mut [u8], at: usize, text: &[u8]) -> usize
-    requires { at + length text.now ≤ longest_print limits }
-    ensures { PutAt text.now out.old at out.new result }
-{
-    let mut next = at;
-    for byte in text {
-        next = put(out, next, *byte);
+    // A text as it stands.
+    #[tactic(auto, using(crate::proofs::Rules::rules_text_word))]
+    pub(crate) fn word(&mut self, text: &[u8])
+        requires { self.old.length + length text.now ≤ longest_print limits }
+        ensures bytes { PutAt text.now self.old.out.now self.old.length self.new.out.now self.new.length }
+        ensures same { self.new.out.ghost_name ≡ self.old.out.ghost_name }
+    {
+        for byte in text {
+            self.put(*byte);
+        }
     }
-    next
-}
 
-// The line of a refused file.
-#[tactic(auto, using(crate::proofs::Rules::rules_text_refused_line), unfolding(crate::specs::Prints::refused_line))]
-pub(crate) fn refused_line(out: &mut [u8], fault: Fault) -> usize
-    ensures { PutAt (refused_line fault) out.old 0 out.new result }
-{
-    let mut next = word(out, 0, b"refused");
-    next = put(out, next, b' ');
-    next = number(out, next, fault.number() as u16);
-    put(out, next, b'\n')
+    // An event's line.
+    #[tactic(auto, using(crate::proofs::Rules::rules_text_event_line), unfolding(crate::specs::Prints::event_line))]
+    pub(crate) fn event_line(&mut self, k: u16, answer: u8)
+        requires { self.old.length + length (event_line k answer) ≤ longest_print limits }
+        ensures bytes { PutAt (event_line k answer) self.old.out.now self.old.length self.new.out.now self.new.length }
+        ensures same { self.new.out.ghost_name ≡ self.old.out.ghost_name }
+    {
+        self.number(k);
+        self.put(b' ');
+        self.number(answer as u16);
+        self.put(b'\n');
+    }
+
+    // A board's line.
+    #[tactic(auto, using(crate::proofs::Rules::rules_text_board_line), unfolding(crate::specs::Prints::board_line))]
+    pub(crate) fn board_line(&mut self, k: u8, shown: Shown)
+        requires { self.old.length + length (board_line k shown) ≤ longest_print limits }
+        ensures bytes { PutAt (board_line k shown) self.old.out.now self.old.length self.new.out.now self.new.length }
+        ensures same { self.new.out.ghost_name ≡ self.old.out.ghost_name }
+    {
+        self.number(k as u16);
+        self.put(b' ');
+        self.put(shown.letter.byte());
+        self.put(b' ');
+        self.number(shown.round.0 as u16);
+        self.put(b' ');
+        self.number(shown.value);
+        self.put(b'\n');
+    }
+
+    // The line of a refused file.
+    #[tactic(auto, using(crate::proofs::Rules::rules_text_refused_line), unfolding(crate::specs::Prints::refused_line))]
+    pub(crate) fn refused_line(&mut self, fault: Fault)
+        requires { self.old.length + length (refused_line fault) ≤ longest_print limits }
+        ensures bytes { PutAt (refused_line fault) self.old.out.now self.old.length self.new.out.now self.new.length }
+        ensures same { self.new.out.ghost_name ≡ self.old.out.ghost_name }
+    {
+        self.word(b"refused");
+        self.put(b' ');
+        self.number(fault.number() as u16);
+        self.put(b'\n');
+    }
 }

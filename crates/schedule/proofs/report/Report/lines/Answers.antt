@@ -1,7 +1,7 @@
 -- `Report::lines` meets its contract. Assumes nothing.
 use Prim.Native.Nat.{◌+◌, ◌-◌, ◌≤◌, ◌<◌}
 use native.Mathlib.Omega.{arith}
-use mathlib.Core.Path.{◌≡◌, sym, ◌∙◌}
+use mathlib.Core.Path.{◌≡◌, refl, sym, ◌∙◌}
 use Rattle.std.proofs.lemmas.List.{get_or-take, length-take}
 use mathlib.Core.List.{append-nil}
 use lib.ListN.{length, take, get_or}
@@ -14,7 +14,8 @@ use Rattle.schedule.proofs.PrintLaws.{event-within, board-within, parts_none, pa
 use Rattle.schedule.proofs.report.Report.lines.Goals as goal
 
 pub loop-k-init : goal.loop-k-init
-loop-k-init c = record { short = omega arith; put = parts_none _ }
+loop-k-init c =
+    record { short = omega arith; put = rw c.requires.start (parts_none _); same = refl }
 
 pub loop-k-preserved : goal.loop-k-preserved
 loop-k-preserved c =
@@ -26,7 +27,8 @@ loop-k-preserved c =
     let e : nth run.answers (k + 1) 0 ≡ answer = nth_after run.answers k 0 ∙ sym (get_or-take run.count run.answers k 0 there) in
     record {
       short = omega (arith, within);
-      put = parts_next (λ j. event_line j (nth run.answers j 0)) k c.loop-k.invariant.put (rw e c.event_line-next.ensures);
+      put = parts_next (λ j. event_line j (nth run.answers j 0)) k c.loop-k.invariant.put (rw e c.event_line.ensures.bytes);
+      same = c.event_line.ensures.same ∙ c.loop-k.invariant.same;
     }
 
 pub loop-k-2-init : goal.loop-k-2-init
@@ -39,6 +41,7 @@ loop-k-2-init c =
       more = omega arith;
       short = omega (arith, end);
       put = rw (append-nil (event_lines run.count run.answers)) (rw end at c.loop-k.invariant.put);
+      same = c.loop-k.invariant.same;
     }
 
 pub loop-k-2-preserved : goal.loop-k-2-preserved
@@ -51,7 +54,8 @@ loop-k-2-preserved c =
     record {
       more = omega arith;
       short = omega (arith, within);
-      put = rw last (parts_then _ (λ j. board_line j (shown limits run.bench j)) k (k - 1) (omega arith) c.loop-k-2.invariant.put (rw c.shown.ensures at c.board_line-next.ensures));
+      put = rw last (parts_then _ (λ j. board_line j (shown limits run.bench j)) k (k - 1) (omega arith) c.loop-k-2.invariant.put (rw c.shown.ensures at c.board_line.ensures.bytes));
+      same = c.board_line.ensures.same ∙ c.loop-k-2.invariant.same;
     }
 
 pub returns-clause-lines : goal.returns-clause-lines
@@ -62,4 +66,4 @@ returns-2-clause-lines c =
     let k = c.loop-k-2.k in
     let run = c.args.self.now in
     let end : k ≡ run.n = omega arith in
-    rw (← end) (parts_then _ (λ j. board_line j (shown limits run.bench j)) k (k - 1) (omega arith) c.loop-k-2.invariant.put (rw c.shown.ensures at c.board_line-next.ensures))
+    rw (← end) (parts_then _ (λ j. board_line j (shown limits run.bench j)) k (k - 1) (omega arith) c.loop-k-2.invariant.put (rw c.shown.ensures at c.board_line.ensures.bytes))

@@ -1,6 +1,7 @@
 -- The loops' invariants of `Report::lines`: the lines of the first events, and then of the first boards, are put, each of
 -- them within its most bytes.
 use Prim.Native.Nat.{◌+◌, ◌-◌, ◌*◌, ◌≤◌}
+use mathlib.Core.Path.{◌≡◌}
 use mathlib.Core.List.{◌++◌}
 use Rattle.delivery.specs.Limits.{limits}
 use Rattle.schedule.specs.Files.{most_events}
@@ -9,13 +10,15 @@ use Rattle.schedule.proofs.report.Report.lines.Given as goal
 
 abbrev pub invariant-loop-k : goal.invariant-loop-k
 invariant-loop-k l = record {
-  short : l.next ≤ event_line_bytes * l.k;
-  put : PutAt (event_lines l.k l.self.answers) l.fn.out 0 l.out l.next;
+  short : l.text.length ≤ event_line_bytes * l.k;
+  put : PutAt (event_lines l.k l.self.answers) l.fn.text.out.now 0 l.text.out.now l.text.length;
+  same : l.text.out.ghost_name ≡ l.fn.text.out.ghost_name;
 }
 
 abbrev pub invariant-loop-k-2 : goal.invariant-loop-k-2
 invariant-loop-k-2 l = record {
   more : l.k ≤ l.self.n + 1;
-  short : l.next ≤ event_line_bytes * most_events + board_line_bytes * (l.k - 1);
-  put : PutAt (event_lines l.self.count l.self.answers ++ board_lines limits (l.k - 1) l.self.bench) l.fn.out 0 l.out l.next;
+  short : l.text.length ≤ event_line_bytes * most_events + board_line_bytes * (l.k - 1);
+  put : PutAt (event_lines l.self.count l.self.answers ++ board_lines limits (l.k - 1) l.self.bench) l.fn.text.out.now 0 l.text.out.now l.text.length;
+  same : l.text.out.ghost_name ≡ l.fn.text.out.ghost_name;
 }
