@@ -8,16 +8,16 @@ use Rattle.schedule.proofs.PrintLaws.{buffer-short, buffer-written, length-parts
 
 pub ruleset rules_fenderacai_report = (told-written, told-short)
 
-pub ruleset rules_row_put = (put_then, length-table, length-boards, length-delivered, room-left)
+pub ruleset rules_row_words_row = (put_then, length-table, length-boards, length-delivered, room-left)
 
-pub ruleset rules_row_put_boards = (put-length, parts_none, parts_next, length-parts, length-board, room-left)
+pub ruleset rules_row_words_boards = (put-length, parts_none, parts_next, length-parts, length-board, room-left)
 
-pub ruleset rules_row_put_delivered = (put-length, parts_none, parts_next, length-parts, length-table, room-left)
+pub ruleset rules_row_words_delivered = (put-length, parts_none, parts_next, length-parts, length-table, room-left)
 
-pub ruleset rules_row_put_table = (put-length, parts_none, parts_next, length-parts, length-words, room-left)
+pub ruleset rules_row_words_table = (put-length, parts_none, parts_next, length-parts, length-words, room-left)
 
-pub ruleset rules_row_put_words = (put-length)
+pub ruleset rules_row_words_list = (put-length)
 
-pub ruleset rules_trace_rows = (length-events, put-length, length-row, length-rows, rows_next, rows_none)
+pub ruleset rules_row_words_rows = (length-events, put-length, length-row, length-rows, rows_next, rows_none)
 
 pub ruleset rules_trace_write = (put-none, buffer-written, refused-traced, fresh-bench, put_then, put-length, buffer-short, file-taken, start-within, events-fit, length-row, trace-played, length-traced)

@@ -22,6 +22,13 @@ pub(crate) const WORDS: usize = FRONT_WORDS
     + Bench::BOARDS as usize * TABLE_WORDS
     + TABLE_WORDS;
 
+// Words that are put into a buffer from its start on, and how many they are so far.
+#[derive(Drop)]
+pub(crate) struct Words<'a> {
+    pub(crate) out: &'a mut [u32],
+    pub(crate) length: usize,
+}
+
 // A status by number. By hand, since a status that has a decision cannot be cast.
 #[tactic(auto, unfolding(crate::specs::Rows::status_number))]
 fn status_number(status: Status) -> u32
@@ -49,100 +56,91 @@ fn decision(status: Status) -> Decision
     }
 }
 
-// Each of these puts some words into a buffer from a place on, and answers with the place after them.
-
-// Words as they stand.
-#[tactic(auto, using(crate::proofs::Rules::rules_row_put_words))]
-fn put_words(out: &mut [u32], at: usize, words: &[u32]) -> usize
-    requires { at + length words.now ≤ length out.old }
-    ensures { PutAt words.now out.old at out.new result }
-{
-    let end = at + words.len();
-    out[at..end].copy_from_slice(words);
-    end
-}
-
-// A board, and the highest identifier that its signer signed.
-#[tactic(auto, unfolding(crate::specs::Rows::board_words, crate::specs::Rows::status_words, crate::specs::Rows::position_words, crate::specs::Rows::stage_number))]
-fn put_board(out: &mut [u32], at: usize, board: Board, last: Identifier) -> usize
-    requires { at + board_size ≤ length out.old }
-    ensures { PutAt (board_words board last.0) out.old at out.new result }
-{
-    let decided = decision(board.status);
-    let words = [
-        status_number(board.status),
-        decided.round.0 as u32,
-        decided.value as u32,
-        board.position.round.0 as u32,
-        board.position.estimate as u32,
-        board.position.stage as u32,
-        board.position.suspected.bits() as u32,
-        last.0 as u32,
-    ];
-    put_words(out, at, &words)
-}
-
-// Every board.
-#[tactic(auto, using(crate::proofs::Rules::rules_row_put_boards))]
-fn put_boards(out: &mut [u32], at: usize, bench: &Bench) -> usize
-    requires { at + limits.boards * board_size ≤ length out.old }
-    ensures { PutAt (parts_to limits.boards (λ k. board_words (board_at limits bench.now k) (signer_at limits bench.now k).last.0)) out.old at out.new result }
-{
-    let mut next = at;
-    for k in 0..Bench::BOARDS {
-        next = put_board(out, next, bench.board(k + 1), bench.signer(k + 1).last);
+// Each of these puts some words after those that are there.
+impl Words<'_> {
+    // Words as they stand.
+    #[tactic(auto, using(crate::proofs::Rules::rules_row_words_list))]
+    fn list(&mut self, words: &[u32])
+        requires { self.old.length + length words.now ≤ length self.old.out.now }
+        ensures words { PutAt words.now self.old.out.now self.old.length self.new.out.now self.new.length }
+        ensures same { self.new.out.ghost_name ≡ self.old.out.ghost_name }
+    {
+        let end = self.length + words.len();
+        self.out[self.length..end].copy_from_slice(words);
+        self.length = end;
     }
-    next
-}
 
-// A table: for each speaker a word for each identifier.
-#[tactic(auto, using(crate::proofs::Rules::rules_row_put_table))]
-fn put_table<F: Fn(u8, Identifier) -> u32>(out: &mut [u32], at: usize, word: F) -> usize
-    requires calls { F.IsAlwaysCallable word }
-    requires room { at + table_size limits ≤ length out.old }
-    ensures { (f : ℕ → ℕ → ℕ) → Tells limits (F.post word) f → PutAt (table_words limits f) out.old at out.new result }
-{
-    let mut next = at;
-    for k in 0..Bench::BOARDS {
-        for i in 0..Identifier::LAST {
-            out[next] = word(k + 1, Identifier(i + 1));
-            next += 1;
+    // A board, and the highest identifier that its signer signed.
+    #[tactic(auto, unfolding(crate::specs::Rows::board_words, crate::specs::Rows::status_words, crate::specs::Rows::position_words, crate::specs::Rows::stage_number))]
+    fn board(&mut self, board: &Board, last: Identifier)
+        requires { self.old.length + board_size ≤ length self.old.out.now }
+        ensures words { PutAt (board_words board.now last.0) self.old.out.now self.old.length self.new.out.now self.new.length }
+        ensures same { self.new.out.ghost_name ≡ self.old.out.ghost_name }
+    {
+        let decided = decision(board.status);
+        self.list(&[
+            status_number(board.status),
+            decided.round.0 as u32,
+            decided.value as u32,
+            board.position.round.0 as u32,
+            board.position.estimate as u32,
+            board.position.stage as u32,
+            board.position.suspected.bits() as u32,
+            last.0 as u32,
+        ]);
+    }
+
+    // Every board.
+    #[tactic(auto, using(crate::proofs::Rules::rules_row_words_boards))]
+    fn boards(&mut self, bench: &Bench)
+        requires { self.old.length + limits.boards * board_size ≤ length self.old.out.now }
+        ensures words { PutAt (parts_to limits.boards (λ k. board_words (board_at limits bench.now k) (signer_at limits bench.now k).last.0)) self.old.out.now self.old.length self.new.out.now self.new.length }
+        ensures same { self.new.out.ghost_name ≡ self.old.out.ghost_name }
+    {
+        for k in 0..Bench::BOARDS {
+            self.board(&bench.board(k + 1), bench.signer(k + 1).last);
         }
     }
-    next
-}
 
-// What each board delivered.
-#[tactic(auto, using(crate::proofs::Rules::rules_row_put_delivered))]
-fn put_delivered(out: &mut [u32], at: usize, bench: &Bench) -> usize
-    requires { at + limits.boards * table_size limits ≤ length out.old }
-    ensures { PutAt (parts_to limits.boards (λ k. table_words limits (heard_by limits bench.now k))) out.old at out.new result }
-{
-    let mut next = at;
-    for k in 0..Bench::BOARDS {
-        let board = bench.board(k + 1);
-        next = put_table(out, next, |speaker, id| board.delivered.entry(speaker, id));
+    // A table: for each speaker a word for each identifier.
+    #[tactic(auto, using(crate::proofs::Rules::rules_row_words_table))]
+    fn table<F: Fn(u8, Identifier) -> u32>(&mut self, word: F)
+        requires calls { F.IsAlwaysCallable word }
+        requires room { self.old.length + table_size limits ≤ length self.old.out.now }
+        ensures words { (f : ℕ → ℕ → ℕ) → Tells limits (F.post word) f → PutAt (table_words limits f) self.old.out.now self.old.length self.new.out.now self.new.length }
+        ensures same { self.new.out.ghost_name ≡ self.old.out.ghost_name }
+    {
+        for k in 0..Bench::BOARDS {
+            for i in 0..Identifier::LAST {
+                self.list(&[word(k + 1, Identifier(i + 1))]);
+            }
+        }
     }
-    next
-}
 
-// A row.
-#[tactic(auto, using(crate::proofs::Rules::rules_row_put), unfolding(crate::specs::Rows::row))]
-pub(crate) fn put(out: &mut [u32], at: usize, answer: u8, bench: &Bench) -> usize
-    requires { at + row_size limits ≤ length out.old }
-    ensures { PutAt (row limits answer bench.now) out.old at out.new result }
-{
-    let mut next = put_words(
-        out,
-        at,
-        &[answer as u32, bench.n as u32, bench.sound.bits() as u32],
-    );
-    next = put_boards(out, next, bench);
-    next = put_table(out, next, |speaker, id| bench.signed(speaker, id));
-    next = put_delivered(out, next, bench);
-    put_table(
-        out,
-        next,
-        |speaker, id| bench.owed(speaker, id).bits() as u32,
-    )
+    // What each board delivered.
+    #[tactic(auto, using(crate::proofs::Rules::rules_row_words_delivered))]
+    fn delivered(&mut self, bench: &Bench)
+        requires { self.old.length + limits.boards * table_size limits ≤ length self.old.out.now }
+        ensures words { PutAt (parts_to limits.boards (λ k. table_words limits (heard_by limits bench.now k))) self.old.out.now self.old.length self.new.out.now self.new.length }
+        ensures same { self.new.out.ghost_name ≡ self.old.out.ghost_name }
+    {
+        for k in 0..Bench::BOARDS {
+            let board = bench.board(k + 1);
+            self.table(|speaker, id| board.delivered.entry(speaker, id));
+        }
+    }
+
+    // A row.
+    #[tactic(auto, using(crate::proofs::Rules::rules_row_words_row), unfolding(crate::specs::Rows::row))]
+    pub(crate) fn row(&mut self, answer: u8, bench: &Bench)
+        requires { self.old.length + row_size limits ≤ length self.old.out.now }
+        ensures words { PutAt (row limits answer bench.now) self.old.out.now self.old.length self.new.out.now self.new.length }
+        ensures same { self.new.out.ghost_name ≡ self.old.out.ghost_name }
+    {
+        self.list(&[answer as u32, bench.n as u32, bench.sound.bits() as u32]);
+        self.boards(bench);
+        self.table(|speaker, id| bench.signed(speaker, id));
+        self.delivered(bench);
+        self.table(|speaker, id| bench.owed(speaker, id).bits() as u32);
+    }
 }

@@ -6,23 +6,24 @@ ghost use Rattle.schedule.specs.Prints.{PutAt, buffer_from};
 ghost use Rattle.fenderacai.specs.Rows.{row_size};
 ghost use Rattle.fenderacai.specs.Traces.{rows_of, traced};
 
-use crate::row;
+use crate::row::{self, Words};
 use bench::{Bench, Event, Refusal};
 use schedule::Schedule;
 
-// Plays so many events, and puts a row for each.
-#[tactic(auto, using(crate::proofs::Rules::rules_trace_rows))]
-fn rows(out: &mut [u32], at: usize, mut bench: Bench, count: usize, events: &[u8]) -> usize
-    requires events { event_bytes * count ≤ length events.now }
-    requires room { at + row_size limits * count ≤ length out.old }
-    ensures { PutAt (rows_of limits bench (events_in count events.now)) out.old at out.new result }
-{
-    let mut next = at;
-    for k in 0..count {
-        let answer = bench.apply(Event::read(&events[Event::BYTES * k..]));
-        next = row::put(out, next, Refusal::number_of(answer), &bench);
+impl Words<'_> {
+    // Plays so many events, and puts a row for each.
+    #[tactic(auto, using(crate::proofs::Rules::rules_row_words_rows))]
+    fn rows(&mut self, mut bench: Bench, count: usize, events: &[u8])
+        requires events { event_bytes * count ≤ length events.now }
+        requires room { self.old.length + row_size limits * count ≤ length self.old.out.now }
+        ensures words { PutAt (rows_of limits bench (events_in count events.now)) self.old.out.now self.old.length self.new.out.now self.new.length }
+        ensures same { self.new.out.ghost_name ≡ self.old.out.ghost_name }
+    {
+        for k in 0..count {
+            let answer = bench.apply(Event::read(&events[Event::BYTES * k..]));
+            self.row(Refusal::number_of(answer), &bench);
+        }
     }
-    next
 }
 
 // Writes the trace of a file to the start of a buffer, if there is room for it.
@@ -46,6 +47,8 @@ pub(crate) fn write(file: &[u8], out: &mut [u32]) -> usize
     }
     let fresh = Bench::fresh(n, marks);
     let bench = fresh.bench;
-    let next = row::put(out, 0, 0, &bench);
-    rows(out, next, bench, count as usize, &file[start..])
+    let mut words = Words { out, length: 0 };
+    words.row(0, &bench);
+    words.rows(bench, count as usize, &file[start..]);
+    words.length
 }

@@ -9,7 +9,8 @@ use Rattle.delivery.specs.Limits.{limits}
 use Rattle.bench.specs.Setups.{fresh_bench}
 use Rattle.bench.specs.declared.fresh.Fresh.{Fresh}
 use Rattle.bench.proofs.SetupLaws.{fresh-bench}
-use Rattle.schedule.specs.Prints.{PutAt}
+use Rattle.schedule.specs.Prints.{PutAt, buffer_from}
+use Rattle.std.proofs.Common.{rules}
 use Rattle.schedule.proofs.PrintLaws.{put-none, put_then, put-length, buffer-short, buffer-written}
 use Rattle.schedule.proofs.PlayLaws.{file-taken, start-within, events-fit}
 use Rattle.fenderacai.specs.Traces.{traced}
@@ -47,19 +48,18 @@ rows-requires c =
     let read = file-taken limits bs s c.type_inv.file (sym c.read.ensures ∙ c.in-Ok.is) in
     record {
       events = omega (arith, ap length (part_to_end bs s.start), events-fit limits bs s read);
-      room = omega (arith, c.put-next.ensures.place, put-length c.put-next.ensures, length-row c.fresh-fresh.result.bench 0, c.if-length-out.false);
+      room = omega (arith, c.row.ensures.words.place, put-length c.row.ensures.words, length-row c.fresh-fresh.result.bench 0, c.if-length-out.false);
     }
 
+-- the row of the fresh bench and those of the events are put
 pub returns : goal.returns
 returns c =
     let bs = c.args.file.now in
     let s = c.in-Ok.schedule in
     let read = file-taken limits bs s c.type_inv.file (sym c.read.ensures ∙ c.in-Ok.is) in
     let begun : c.fresh-fresh.result.bench ≡ fresh_bench limits s.n s.marks = ap (λ (x : Fresh). x.bench) c.fresh-fresh.ensures ∙ fresh-bench limits s.n s.marks in
-    let text : PutAt (traced limits bs) c.args.out.now 0 c.rows.new.out c.rows.result =
-    rw (← trace-played limits bs s read) (put_then (rw begun at c.put-next.ensures) (rw (begun, part_to_end bs s.start) at c.rows.ensures)) in
+    let text : PutAt (traced limits bs) c.args.out.now 0 c.rows.new.self.out.now c.rows.new.self.length =
+    rw (← trace-played limits bs s read) (put_then (rw begun at c.row.ensures.words) (rw (begun, part_to_end bs s.start) at c.rows.ensures.words)) in
     let l = length-traced bs s read in
-    record {
-      length = omega (arith, text.place);
-      buffer = buffer-written (omega (arith, l, c.if-length-out.false)) text;
-    }
+    let written : c.rows.new.self.out.now ≡ buffer_from (traced limits bs) c.args.out.now = buffer-written (omega (arith, l, c.if-length-out.false)) text in
+    record { length = omega (arith, text.place); buffer = search rules }

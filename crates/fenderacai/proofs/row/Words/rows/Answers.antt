@@ -1,4 +1,4 @@
--- `trace::rows` meets its contract. Assumes nothing.
+-- `Words::rows` meets its contract. Assumes nothing.
 use Prim.Native.Nat.{ℕ, ◌+◌, ◌-◌, ◌*◌}
 use native.Mathlib.Omega.{arith}
 use mathlib.Core.Path.{◌≡◌, ap, ◌∙◌}
@@ -13,11 +13,12 @@ use Rattle.bench.specs.Runs.{events_in}
 use Rattle.bench.specs.declared.bench.Bench.{Bench}
 use Rattle.bench.specs.declared.event.Event.{Event}
 use Rattle.schedule.specs.Prints.{PutAt}
+use Rattle.schedule.proofs.PrintLaws.{put-length}
 use Rattle.fenderacai.specs.Rows.{row}
 use Rattle.fenderacai.specs.Traces.{rows_of}
 use Rattle.fenderacai.proofs.RowLaws.{length-row}
 use Rattle.fenderacai.proofs.TraceLaws.{rows_next}
-use Rattle.fenderacai.proofs.trace.rows.Goals as goal
+use Rattle.fenderacai.proofs.row.Words.rows.Goals as goal
 
 pub loop-k-preserved : goal.loop-k-preserved
 loop-k-preserved c =
@@ -29,13 +30,15 @@ loop-k-preserved c =
     let event : c.read.result ≡ e = c.read.ensures ∙ ap event_from (part_to_end bs at) in
     let bench : c.apply-answer.new.self ≡ (step_of limits l.bench e).bench = c.apply-answer.ensures.1 ∙ ap (λ (x : Event). (step_of limits l.bench x).bench) event in
     let answer : c.number_of.result ≡ answer_number (step_of limits l.bench e).answer = c.number_of.ensures ∙ ap answer_number (c.apply-answer.ensures.0 ∙ ap (λ (x : Event). (step_of limits l.bench x).answer) event) in
-    let put : PutAt (row limits (answer_number (step_of limits l.bench e).answer) (step_of limits l.bench e).bench) l.out l.next c.put-next.new.out c.put-next.result = rw (answer, bench) at c.put-next.ensures in
+    let put : PutAt (row limits (answer_number (step_of limits l.bench e).answer) (step_of limits l.bench e).bench) l.self.out.now l.self.length c.row.new.self.out.now c.row.new.self.length = rw (answer, bench) at c.row.ensures.words in
     let far : event_bytes * (l.k + 1) ≡ at + event_bytes = omega arith in
     record {
       place = omega (arith, put.place, l.invariant.place, length-row (step_of limits l.bench e).bench (answer_number (step_of limits l.bench e).answer));
       rest =
-          ap (λ (b : Bench). sets c.put-next.new.out c.put-next.result (rows_of limits b (events_in (n - (l.k + 1)) (drop (event_bytes * (l.k + 1)) bs)))) bench
-          ∙ ap (λ (m : ℕ). sets c.put-next.new.out c.put-next.result (rows_of limits (step_of limits l.bench e).bench (events_in (n - (l.k + 1)) (drop m bs)))) far
+          ap (λ (b : Bench). sets c.row.new.self.out.now c.row.new.self.length (rows_of limits b (events_in (n - (l.k + 1)) (drop (event_bytes * (l.k + 1)) bs)))) bench
+          ∙ ap (λ (m : ℕ). sets c.row.new.self.out.now c.row.new.self.length (rows_of limits (step_of limits l.bench e).bench (events_in (n - (l.k + 1)) (drop m bs)))) far
           ∙ rows_next l.bench n l.k at bs c.loop-k-test.true put
           ∙ l.invariant.rest;
+      long = put-length put ∙ l.invariant.long;
+      same = c.row.ensures.same ∙ l.invariant.same;
     }

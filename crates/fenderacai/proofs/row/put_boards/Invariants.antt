@@ -1,9 +1,0 @@
--- The loop's invariant of `row::put_boards`: the first k boards are put.
-use Rattle.delivery.specs.Limits.{limits}
-use Rattle.bench.specs.Benches.{board_at, signer_at}
-use Rattle.schedule.specs.Prints.{parts_to, PutAt}
-use Rattle.fenderacai.specs.Rows.{board_words}
-use Rattle.fenderacai.proofs.row.put_boards.Given as goal
-
-abbrev pub invariant-loop-k : goal.invariant-loop-k
-invariant-loop-k l = PutAt (parts_to l.k (λ k'. board_words (board_at limits l.bench k') (signer_at limits l.bench k').last.0)) l.fn.out l.at l.out l.next
