@@ -1,20 +1,18 @@
 -- The examples of specs/Examples about acceptance, for every value. Assumes nothing.
-use Prim.Native.Nat.{ℕ, ◌+◌, ◌-◌, ◌≤◌, min}
+use Prim.Native.Nat.{ℕ, ◌≤◌}
 use native.Mathlib.Omega.{arith}
 use mathlib.Core.Path.{◌≡◌, refl, sym, ap, ◌∙◌}
 use mathlib.Core.Bool.{Bool, true}
 use borrow.Author.Tests.{eqb-true, eq-eqb}
-use lib.Dec.{eqb, leb}
-use Rattle.std.specs.Prelude.{if◌then◌else◌}
+use lib.Dec.{eqb}
 use Rattle.signer.specs.FromOne.{is_within, nth, set_nth}
 use Rattle.signer.specs.Log.{entry_of}
 use Rattle.delivery.specs.Tests.{◌and◌, ◌or◌, neg}
 use Rattle.delivery.specs.Counting.{plus, count_in}
 use Rattle.delivery.specs.Limits.{limits}
-use Rattle.delivery.specs.Bus.{quorum, overlap}
 use Rattle.delivery.specs.Rounds.{coordinator, phase_of, identifier_of}
 use Rattle.delivery.specs.Delivered.{place_of, heard_in, nothing_delivered, heard, deliver}
-use Rattle.delivery.specs.Acceptance.{says, opening_entry, bears, backs, allowed}
+use Rattle.delivery.specs.Acceptance.{says, bears, backs, allowed}
 use Rattle.delivery.specs.Pass.{lets}
 use Rattle.delivery.specs.declared.allowance.Allowance.{Allowance}
 use Rattle.delivery.specs.declared.allowance.Allowance.TheVariants.{Nothing, Every, Only}
@@ -22,7 +20,7 @@ use Rattle.delivery.specs.Examples.{nine-blank, blank-blank, nine-blank-blank, n
 use Rattle.delivery.specs.declared.delivered.Delivered.{Delivered}
 use Rattle.delivery.proofs.TestLaws.{same_test}
 use Rattle.delivery.proofs.AllRoundsLaws.{opening-unsent, ballot-unopened}
-use Rattle.delivery.proofs.PassLaws.{lets-value, lets-nothing, lets-only, every_first, pass-next}
+use Rattle.delivery.proofs.PassLaws.{lets-value, lets-nothing, lets-only, Counted, every_first, pass-next}
 
 -- what an allowance says of every value
 only : (v w : ℕ) → (v ≡ 0 → ⊥) → lets (Only (entry_of v)) w ≡ eqb w v
@@ -43,12 +41,8 @@ every w = refl
 
 -- what is counted in round 1: the opening's entry is 10, so many ballots are blank, so many bear 9; and what
 -- that leaves
-record Tallied (n : ℕ) (d : Delivered) (b c : ℕ) (a : Allowance) : Type 0 where
-  opening : 10
-      ≡ (if says (opening_entry limits n (heard limits d) 1) (lets Every) then opening_entry limits n (heard limits d) 1 else 0)
-  blanks : b ≡ count_in n (backs limits (heard limits d) 1 (entry_of 0))
-  backers : c ≡ count_in n (backs limits (heard limits d) 1 10)
-  left : a ≡ (if leb (quorum n) (b + min c (overlap n - 1)) then Every else (if leb (quorum n) (b + c) and leb (overlap n) c then Only 10 else Nothing))
+abbrev Tallied : ℕ → Delivered → ℕ → ℕ → Allowance → Type 0
+Tallied n d b c a = Counted limits n (heard limits d) Every 1 10 b c a
 
 -- in round 2, by what is counted in round 1
 second : (n : ℕ) (d : Delivered) (b c : ℕ) (a : Allowance) → Tallied n d b c a → 1 ≤ n → (w : ℕ)

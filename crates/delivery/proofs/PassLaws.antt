@@ -7,7 +7,7 @@ use mathlib.Core.Bool.{Bool, true, false, true≢false}
 use mathlib.Core.Logic.{◌⊎◌, inl, inr, ⊎_elim}
 use mathlib.Core.List.Memᴰ
 use mathlib.Core.List.{List, []}
-use borrow.Author.Tests.{eqb-true, eq-eqb, ne_eqb, leb-true, le-leb}
+use borrow.Author.Tests.{eqb-true, eq-eqb, ne_eqb, leb-true, leb-false, le-leb}
 use lib.Dec.{eqb, leb}
 use Rattle.std.specs.Prelude.{if◌then◌else◌}
 use Rattle.signer.specs.Log.{entry_of}
@@ -25,11 +25,11 @@ use Rattle.delivery.specs.declared.allowance.Allowance.{Allowance}
 use Rattle.delivery.specs.declared.allowance.Allowance.TheVariants.{Nothing, Every, Only}
 use Rattle.delivery.specs.declared.round.Phase.TheVariants.{Ballot}
 use Rattle.signer.proofs.FromOneLaws.{within-high}
-use Rattle.delivery.proofs.CountLaws.{count-cong}
+use Rattle.delivery.proofs.CountLaws.{overlap-pos, count-cong}
 use Rattle.delivery.proofs.SetLaws.{union-sets, set-cong, set_beyond, set-fits}
 use Rattle.delivery.proofs.ChoosingLaws.{none}
 use Rattle.delivery.proofs.DeliveredLaws.{heard-nobody}
-use Rattle.delivery.proofs.TestLaws.{and_left, and_right, and_in, same_test, fails}
+use Rattle.delivery.proofs.TestLaws.{same_test, fails}
 use Rattle.delivery.proofs.OneRoundLaws.{says-low, says-entry, after-reads, reads-after, says_none, says-value, value-says, value-some, bears-reads, backs-value, backs-entry, opens-reads, reads-opens}
 use Rattle.delivery.proofs.AllRoundsLaws.{allowed-none, allowed-blank, allowed-first, allowed-next, some-opened-or, some-unopened}
 use Rattle.delivery.proofs.AgreementLaws.{after_was}
@@ -138,9 +138,7 @@ module _ (L : Limits) (n : ℕ) (h : Store) (before : Allowance) (r x : ℕ) (o 
   few = leb (quorum n) (blank L n h r + min (backing L n h r x) (overlap n - 1))
 
   abbrev many : Bool
-  many =
-      leb (quorum n) (blank L n h r + backing L n h r x)
-      and leb (overlap n) (backing L n h r x)
+  many = leb (quorum n) (blank L n h r + backing L n h r x)
 
   -- a value that is allowed next, by the counts
   counted : (w : ℕ) → allowed_after L n h (lets before) r w ≡ true
@@ -150,14 +148,7 @@ module _ (L : Limits) (n : ℕ) (h : Store) (before : Allowance) (r x : ℕ) (o 
         y.value,
         ⊎_elim
             (λ k.
-            inl (
-              k.0,
-              and_in
-                  (leb (quorum n) (blank L n h r + backing L n h r x))
-                  (leb (overlap n) (backing L n h r x))
-                  (le-leb _ _ k.1)
-                  (le-leb _ _ k.2),
-            ))
+            inl (k.0, le-leb _ _ k.1))
             (λ k. inr (le-leb _ _ k.0))
             (carries-counts L n h (lets before) r x o w y.speakers some y.value (omega (arith, y.size)) y.carries),
       )
@@ -188,8 +179,8 @@ module _ (L : Limits) (n : ℕ) (h : Store) (before : Allowance) (r x : ℕ) (o 
       w
       z
       (eqb-true x (entry_of w) (sym (lets-only x w z) ∙ a))
-      (leb-true _ _ (and_left (leb (quorum n) (blank L n h r + backing L n h r x)) _ m))
-      (leb-true _ _ (and_right (leb (quorum n) (blank L n h r + backing L n h r x)) _ m)))
+      (leb-true _ _ m)
+      (omega (arith, overlap-pos n some, leb-true _ _ m, leb-false _ _ f)))
       (λ a.
       let y = counted w a in
       lets-only x w y.0
@@ -207,7 +198,7 @@ module _ (L : Limits) (n : ℕ) (h : Store) (before : Allowance) (r x : ℕ) (o 
       (λ (k : few ≡ true). true≢false (sym k ∙ f))
       (counted w a).1))
 
-  settled-next : (w : ℕ) → lets (if few then before else (if many then Only x else Nothing)) w ≡ allowed_after L n h (lets before) r w
+  pub settled-next : (w : ℕ) → lets (if few then before else (if many then Only x else Nothing)) w ≡ allowed_after L n h (lets before) r w
   settled-next w =
       if-elim
       (λ (a : Allowance). lets a w ≡ allowed_after L n h (lets before) r w)
@@ -249,6 +240,22 @@ module _ (L : Limits) (n : ℕ) (h : Store) (before : Allowance) (r : ℕ) where
       r
       y.0
       (record { said = y.1; value = lets-value before y.0 y.2; permitted = y.2 })))
+
+-- a round as the program goes through it: the opening's entry x, b blank ballots and c for the opening's value
+-- leave the allowance a
+module _ (L : Limits) (n : ℕ) (h : Store) (before : Allowance) (r x b c : ℕ) (a : Allowance) where
+  pub record Counted : Type 0 where
+    pub opening : x ≡ (if says (opening_entry L n h r) (lets before) then opening_entry L n h r else 0)
+    pub blanks : b ≡ count_in n (backs L h r (entry_of 0))
+    pub backers : c ≡ count_in n (backs L h r x)
+    pub left : a ≡ (if leb (quorum n) (b + min c (overlap n - 1)) then before else (if leb (quorum n) (b + c) then Only x else Nothing))
+
+  pub counted_next : Counted → 1 ≤ n → (w : ℕ) → lets a w ≡ allowed_after L n h (lets before) r w
+  counted_next k some w =
+      let o : Opened L n h (lets before) r x =
+      rw (k.opening, ← says-opens L n h before r) (opened-entry L n h (lets before) r) in
+      let e : count_in n (backs L h r (entry_of 0)) ≡ count_in n (bears L h r 0) = count-cong n _ _ (λ s l u. backs-value L h r 0 s) in
+      rw (k.left, k.blanks ∙ e, k.backers) (settled-next L n h before r x o some w)
 
 -- on a bus without boards no ballot is asked for, and every value is allowed
 nobody-allowed : (L : Limits) (n : ℕ) (h : Store) (r w : ℕ) → n ≡ 0 → 1 ≤ r → (w ≡ 0 → ⊥) → allowed L n h r w ≡ true
@@ -300,14 +307,13 @@ module _ (L : Limits) (n : ℕ) (h : Store) where
       → x ≡ (if says (opening_entry L n h r) (lets a) then opening_entry L n h r else 0)
       → b ≡ count_in n (backs L h r (entry_of 0))
       → c ≡ count_in n (backs L h r x)
-      → a' ≡ (if leb (quorum n) (b + min c (overlap n - 1)) then a else (if leb (quorum n) (b + c) and leb (overlap n) c then Only x else Nothing))
+      → a' ≡ (if leb (quorum n) (b + min c (overlap n - 1)) then a else (if leb (quorum n) (b + c) then Only x else Nothing))
       → lets a' ≡ allowed L n h (r + 1)
   pass-next a a' r x b c f some low opening blanks backers left =
-      let o : Opened L n h (lets a) r x =
-      rw (opening, ← says-opens L n h a r) (opened-entry L n h (lets a) r) in
-      let e : count_in n (backs L h r (entry_of 0)) ≡ count_in n (bears L h r 0) = count-cong n _ _ (λ s l u. backs-value L h r 0 s) in
+      let k : Counted L n h a r x b c a' =
+      record { opening = opening; blanks = blanks; backers = backers; left = left } in
       fun_ext
       (λ w.
-      rw (left, blanks ∙ e, backers) (settled-next L n h a r x o (omega (arith, some)) w)
+      counted_next L n h a r x b c a' k (omega (arith, some)) w
       ∙ ap (λ (may : ℕ → Bool). allowed_after L n h may r w) f
       ∙ sym (allowed-next L n h r w low))

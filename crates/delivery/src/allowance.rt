@@ -1,6 +1,5 @@
 ghost use Rattle.std.specs.Prelude.{ℕ, ◌+◌, ◌-◌, min, ◌≡◌, leb};
 ghost use Rattle.std.specs.Prelude.{if◌then◌else◌};
-ghost use Rattle.delivery.specs.Tests.{◌and◌};
 ghost use Rattle.delivery.specs.Bus.{quorum, overlap};
 ghost use Rattle.delivery.specs.Acceptance.{says};
 ghost use Rattle.delivery.specs.Pass.{lets};
@@ -42,9 +41,8 @@ impl Allowance {
     }
 
     // What is allowed after a round of n boards with so many blank ballots and so many for the opening's value.
-    #[tactic(auto, using(crate::proofs::Rules::rules_allowance_allowance_settled))]
     pub(crate) fn settled(self, n: u8, opening: u32, blank: u8, backing: u8) -> Allowance
-        ensures { result ≡ (if leb (quorum n) (blank + min backing (overlap n - 1)) then self else (if leb (quorum n) (blank + backing) and leb (overlap n) backing then Only opening else Nothing)) }
+        ensures { result ≡ (if leb (quorum n) (blank + min backing (overlap n - 1)) then self else (if leb (quorum n) (blank + backing) then Only opening else Nothing)) }
     {
         let q = bus::quorum(n) as u16;
         let e = bus::overlap(n);
@@ -56,7 +54,7 @@ impl Allowance {
         if q > blank as u16 + backing as u16 {
             return Allowance::Nothing;
         }
-        // here backing is above the spare ones, so it is at least e
+        // here more bear it than the spare ones, so e or more do
         Allowance::Only(opening)
     }
 }

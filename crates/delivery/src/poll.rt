@@ -123,7 +123,7 @@ impl<'a> Poll<'a> {
     }
 
     // Whether a value is allowed in the round.
-    #[tactic(auto, using(crate::proofs::Rules::rules_poll_poll_allowed))]
+    #[tactic(auto, unfolding(crate::specs::Acceptance::says))]
     pub fn allowed(&self, value: u16) -> bool
         ensures { result ≡ allowed limits self.now.n (heard limits self.now.delivered) self.now.round value }
     {

@@ -43,7 +43,7 @@ impl Round {
 
     // The identifier under which this round's opening or ballot is signed; 0, which is none, where
     // the number is no round.
-    #[tactic(auto, using(crate::proofs::Rules::rules_round_round_identifier), unfolding(crate::specs::Rounds::phase_of))]
+    #[tactic(auto, using(crate::proofs::Rules::rules_round_round_identifier), unfolding(crate::specs::Rounds::identifier_of, crate::specs::Rounds::phase_of))]
     pub fn identifier(self, phase: Phase) -> Identifier
         ensures { result.0 ≡ identifier_of limits phase self.0 }
     {
@@ -58,7 +58,7 @@ impl Round {
     }
 
     // The round after this one; the last has none, and stays.
-    #[tactic(auto, using(crate::proofs::Rules::rules_round_round_next))]
+    #[tactic(auto, unfolding(crate::specs::Rounds::next_round))]
     pub fn next(self) -> Round
         ensures { result.0 ≡ next_round limits self.0 }
     {
