@@ -46,18 +46,21 @@ module _ (L : Limits) (es : List ℕ) (r : ℕ) where
       fails (bears L (heard_in L es) r w s) (λ b. omega (arith, silent s l, bears-reads L (heard_in L es) r w s b))
 
   -- so a search among the boards that there can be finds all of 1 to n whose ballots have an entry
-  pub bearing-found : (n x i : ℕ) → i ≡ identifier_of L Ballot r → (x ≡ 0 → ⊥)
-      → set_of (min n L.boards) (λ (s : ℕ). eqb (heard_in L es s i) x) ≡ set_of n (backs L (heard_in L es) r x)
-  bearing-found n x i e z =
-      rw
-      e
-      (sym
-      (set-cong n _ _ (λ s l u. backs-entry L (heard_in L es) r x s z)
-      ∙ set_beyond
+  pub bearing-found : (n x : ℕ) → (x ≡ 0 → ⊥)
+      → set_of (min n L.boards) (backs L (heard_in L es) r x) ≡ set_of n (backs L (heard_in L es) r x)
+  bearing-found n x z =
+      sym
+      (set_beyond
       n
       L.boards
-      (λ (s : ℕ). eqb (ballot_entry L (heard_in L es) r s) x)
-      (λ s l. ne_eqb (ballot_entry L (heard_in L es) r s) x (λ q. z (sym q ∙ silent s l)))))
+      (backs L (heard_in L es) r x)
+      (λ s l.
+      backs-entry L (heard_in L es) r x s z
+      ∙ ne_eqb (ballot_entry L (heard_in L es) r s) x (λ q. z (sym q ∙ silent s l))))
+
+  pub backs-test : (x s i : ℕ) → (x ≡ 0 → ⊥) → i ≡ identifier_of L Ballot r
+      → backs L (heard_in L es) r x s ≡ eqb (heard_in L es s i) x
+  backs-test x s i z e = backs-entry L (heard_in L es) r x s z ∙ ap (λ (j : ℕ). eqb (heard_in L es s j) x) (sym e)
 
   -- and two such sets, joined, fit into one
   pub bearing-fits : (n x : ℕ) → L.boards ≤ bits

@@ -4,7 +4,7 @@ use mathlib.Core.Path.{◌≡◌, refl, sym, ap, ◌∙◌}
 use mathlib.Core.Bool.{true, false}
 use native.Mathlib.Omega.{arith}
 use native.Mathlib.Nat.{mod-lt}
-use borrow.Author.Tests.{lt-ltb, le-ltb}
+use borrow.Author.Tests.{lt-ltb}
 use lib.Dec.{ltb}
 use Rattle.signer.proofs.ConditionalLaws.{if-true, if-false}
 use Rattle.signer.specs.Log.{is_identifier}
@@ -83,11 +83,7 @@ pub ballot-opening : (L : Limits) (r : ℕ)
 ballot-opening L r h h' =
     rw (identifier-at L Ballot r h, identifier-at L Opening (suc r) h') (phase-rises r (within_low L.rounds r h)).1
 
--- the next round, and that of the last
+-- the next round
 pub next-at : (L : Limits) (r : ℕ) → r < L.rounds → next_round L r ≡ suc r
 unfolding next_round
 next-at L r l = if-true (ltb r L.rounds) (suc r) r (lt-ltb r L.rounds l)
-
-pub next-stays : (L : Limits) (r : ℕ) → L.rounds ≤ r → next_round L r ≡ r
-unfolding next_round
-next-stays L r l = if-false (ltb r L.rounds) (suc r) r (le-ltb r L.rounds l)

@@ -6,7 +6,8 @@ ghost use Rattle.delivery.specs.Delivered.{nothing_delivered, index_of, heard, d
 use signer::{Identifier, Log, from_one};
 
 // What one board has delivered: a row for each speaker, and in it a place for each identifier. Entry 0:
-// nothing; entry v + 1: the value v.
+// nothing; entry v + 1: the value v. An entry stays a number, not an option of a value: the field is open, and any
+// number in it has its answer (a rule of the project).
 #[derive(Clone, Copy)]
 pub struct Delivered {
     pub entries: [u32; Delivered::PLACES],
@@ -36,6 +37,7 @@ impl Delivered {
     }
 
     // Where the entry of what a speaker said under an identifier stands; nowhere where no board can say it.
+    // Speaker and identifier stay two arguments, here and below: a pair of them is taken apart at once, so no plainer.
     #[tactic(auto, using(crate::proofs::Rules::rules_delivered_delivered_index))]
     pub fn index(speaker: u8, id: Identifier) -> Option<usize>
         ensures { result ≡ index_of limits speaker id.0 }

@@ -14,7 +14,8 @@ pub struct Copies {
     pub receivers: [BoardSet; Identifier::LAST as usize],
 }
 
-// The copies that are owed, by speaker.
+// The copies that are owed, by speaker. A record for each, where `Delivered` has one array: the fields are open, so the
+// form stays (a rule of the project).
 #[derive(Clone, Copy)]
 pub struct Owed {
     pub speakers: [Copies; Delivered::BOARDS as usize],

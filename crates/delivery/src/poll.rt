@@ -1,4 +1,4 @@
-ghost use Rattle.std.specs.Prelude.{ℕ, min, ◌≡◌, eqb};
+ghost use Rattle.std.specs.Prelude.{ℕ, ◌≡◌};
 ghost use Rattle.delivery.specs.Counting.{count_in};
 ghost use Rattle.delivery.specs.Limits.{limits};
 ghost use Rattle.delivery.specs.Sets.{set_of};
@@ -10,7 +10,7 @@ use crate::allowance::Allowance;
 use crate::delivered::Delivered;
 use crate::round::{Phase, Round};
 use crate::set::BoardSet;
-use signer::{Identifier, Log};
+use signer::Log;
 use std::marker::Model;
 
 // A round among n boards, as one board has heard it.
@@ -43,31 +43,23 @@ impl Delivered {
 }
 
 impl<'a> Poll<'a> {
-    // The boards of 1 to n with this entry under an identifier.
-    #[tactic(auto, using(crate::proofs::Rules::rules_poll_poll_speakers), unfolding(crate::specs::Sets::set_of))]
-    fn speakers(&self, id: Identifier, entry: u32) -> BoardSet
-        ensures { result ≡ set_of (min self.now.n limits.boards) (λ (s : ℕ). eqb (heard limits self.now.delivered s id.0) entry) }
-    {
-        // no number above the boards that there can be has said anything
-        let m = self.n.min(Delivered::BOARDS);
-        let mut speakers = BoardSet::empty();
-        for k in 0..m {
-            if self.delivered.entry(k + 1, id) == entry {
-                speakers.insert(k + 1);
-            }
-        }
-        speakers
-    }
-
     // The boards of 1 to n whose ballot of the round has this entry; no ballot has entry 0.
-    #[tactic(auto, using(crate::proofs::Rules::rules_poll_poll_bearing))]
+    #[tactic(auto, using(crate::proofs::Rules::rules_poll_poll_bearing), unfolding(crate::specs::Sets::set_of))]
     fn bearing(&self, entry: u32) -> BoardSet
         ensures { result ≡ set_of self.now.n (backs limits (heard limits self.now.delivered) self.now.round entry) }
     {
+        let mut bearing = BoardSet::empty();
         if entry == 0 {
-            return BoardSet::empty();
+            return bearing;
         }
-        self.speakers(self.round.identifier(Phase::Ballot), entry)
+        let id = self.round.identifier(Phase::Ballot);
+        // no number above the boards that there can be has said anything
+        for k in 0..self.n.min(Delivered::BOARDS) {
+            if self.delivered.entry(k + 1, id) == entry {
+                bearing.insert(k + 1);
+            }
+        }
+        bearing
     }
 
     // How many boards of 1 to n have a ballot of the round with this entry, accepted or not.

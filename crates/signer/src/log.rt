@@ -4,7 +4,8 @@ ghost use Rattle.signer.specs.Log.{identifiers, entry_of, value_of, empty_log, e
 use crate::from_one;
 use crate::identifier::Identifier;
 
-// What one speaker said under each identifier. Entry 0: nothing; entry v + 1: the value v.
+// What one speaker said under each identifier. Entry 0: nothing; entry v + 1: the value v. An entry stays a
+// number, not an option of a value: the field is open, and any number in it has its answer (a rule of the project).
 #[derive(Clone, Copy, Debug, PartialEq, Eq)]
 pub struct Log {
     pub entries: [u32; Identifier::LAST as usize],

@@ -1,0 +1,13 @@
+-- The loop's invariant of `bearing`: the set is that of the boards passed.
+use Prim.Native.Nat.{◌≤◌, min}
+use mathlib.Core.Path.{◌≡◌}
+use Rattle.delivery.specs.Limits.{limits}
+use Rattle.delivery.specs.Sets.{set_of}
+use Rattle.delivery.specs.Delivered.{heard}
+use Rattle.delivery.specs.Acceptance.{backs}
+use Rattle.delivery.proofs.poll.Poll.bearing.Given as goal
+
+abbrev pub invariant-loop-k : goal.invariant-loop-k
+invariant-loop-k l =
+    (l.k ≤ min l.self.n limits.boards)
+    × (l.bearing ≡ set_of l.k (backs limits (heard limits l.self.delivered) l.self.round l.entry))
