@@ -1,5 +1,5 @@
 -- Document 01, "A board's turns", stages B and C: what the statements of a round that a board accepts come to.
-use Rattle.std.specs.Prelude.{ℕ, zero, suc, Bool, eqb, leb}
+use Rattle.std.specs.Prelude.{ℕ, zero, suc, Bool, eqb, leb, Option, None, Some}
 use Rattle.std.specs.Prelude.{if◌then◌else◌}
 use Rattle.signer.specs.Log.{value_of}
 use Rattle.delivery.specs.Tests.{◌and◌, neg}
@@ -31,3 +31,7 @@ module _ (L : Limits) (n : ℕ) (h : Store) (r : ℕ) where
   -- only one, so it does not matter in which order they are looked through.
   unfoldable pub value_with : ℕ → ℕ
   value_with m = some_value n borne_by (λ (w : ℕ). neg (eqb w 0) and leb m (tally w))
+
+  -- the same as an option: none where it is the blank
+  unfoldable pub some_with : ℕ → Option ℕ
+  some_with m = if eqb (value_with m) 0 then None else Some (value_with m)

@@ -1,7 +1,7 @@
 ghost use Rattle.std.specs.Prelude.{◌≡◌};
 ghost use Rattle.delivery.specs.Limits.{limits};
 ghost use Rattle.delivery.specs.Delivered.{heard};
-ghost use Rattle.vote.specs.Ballots.{opened_value, value_with};
+ghost use Rattle.vote.specs.Ballots.{opened_value, some_with};
 ghost use Rattle.vote.specs.Rule.{open_move, may_vote, vote_move, may_count, next_estimate, onward, count_move, rule};
 
 use crate::position::{Position, Stage};
@@ -49,21 +49,21 @@ impl<'a> Outlook<'a> {
         Log::BLANK
     }
 
-    // The value that so many accepted ballots of the round bear, or more; the blank where there is none. Only the
-    // opening's value can be it, and where that is accepted so is each ballot that bears it.
-    #[tactic(auto, using(crate::proofs::Rules::rules_rule_outlook_value_with))]
-    fn value_with(&self, least: u8) -> u16
-        ensures { result ≡ value_with limits self.now.n (heard limits self.now.delivered.now) self.now.position.round.0 least }
+    // The value that so many accepted ballots of the round bear, or more, if there is one. Only the opening's value can be
+    // it, and where that is accepted so is each ballot that bears it.
+    #[tactic(auto, using(crate::proofs::Rules::rules_rule_outlook_value_with), unfolding(crate::specs::Ballots::some_with))]
+    fn value_with(&self, least: u8) -> Option<u16>
+        ensures { result ≡ some_with limits self.now.n (heard limits self.now.delivered.now) self.now.position.round.0 least }
     {
         let value = self.opened_value();
         if value == Log::BLANK {
-            return Log::BLANK;
+            return None;
         }
         let backing = self.poll().count_bearing(Log::entry_of(value));
         if backing == 0 || backing < least {
-            return Log::BLANK;
+            return None;
         }
-        value
+        Some(value)
     }
 
     // Stage A.
@@ -108,15 +108,12 @@ impl<'a> Outlook<'a> {
     }
 
     // The estimate that the round leaves the board with.
-    #[tactic(auto, unfolding(crate::specs::Rule::next_estimate))]
+    #[tactic(auto, unfolding(crate::specs::Rule::next_estimate, crate::specs::Ballots::some_with))]
     fn next_estimate(&self) -> u16
         ensures { result ≡ next_estimate limits self.now.n self.now.position (heard limits self.now.delivered.now) }
     {
-        let carried = self.value_with(bus::overlap(self.n));
-        if carried == Log::BLANK {
-            return self.position.estimate;
-        }
-        carried
+        self.value_with(bus::overlap(self.n))
+            .unwrap_or(self.position.estimate)
     }
 
     // The end of a round in which the board decides nothing.
@@ -132,18 +129,17 @@ impl<'a> Outlook<'a> {
     }
 
     // Stage C.
-    #[tactic(auto, unfolding(crate::specs::Rule::count_move))]
+    #[tactic(auto, unfolding(crate::specs::Rule::count_move, crate::specs::Ballots::some_with))]
     fn count_move(&self) -> Move
         ensures { result ≡ count_move limits self.now.n self.now.position (heard limits self.now.delivered.now) }
     {
         if !self.may_count() {
             return Move::Waits;
         }
-        let chosen = self.value_with(bus::quorum(self.n));
-        if chosen == Log::BLANK {
-            return self.onward();
+        match self.value_with(bus::quorum(self.n)) {
+            Some(chosen) => Move::Decides(chosen),
+            None => self.onward(),
         }
-        Move::Decides(chosen)
     }
 }
 
