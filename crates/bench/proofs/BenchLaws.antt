@@ -2,13 +2,12 @@
 use Rattle.signer.specs.FromOne.{nth}
 use mathlib.Core.List.{List}
 use Prim.Native.Nat.{ℕ, ◌≤◌, ◌+◌, ◌-◌, ◌<◌}
-use mathlib.Core.Path.{◌≡◌, refl, ap, ◌∙◌}
+use mathlib.Core.Path.{◌≡◌, ap, ◌∙◌}
 use mathlib.Core.Bool.{true}
 use lib.ListN.{length, get_or}
 use lib.Dec.{eqb}
 use native.Mathlib.Omega.{arith}
 use Rattle.signer.proofs.FromOneLaws.{nth-none, nth-any, within_low, within-high, nth-set-same, nth-set-other, nth-replicate}
-use Rattle.signer.specs.Log.{entry_at}
 use Rattle.signer.specs.Signer.{fresh_signer, sign}
 use Rattle.delivery.specs.Limits.{Limits}
 use Rattle.delivery.specs.Bus.{is_board}
@@ -16,7 +15,7 @@ use Rattle.delivery.specs.Delivered.{heard}
 use Rattle.delivery.specs.Tests.{neg}
 use Rattle.vote.specs.Boards.{fresh_board}
 use Rattle.vote.specs.declared.board.Board.{Board}
-use Rattle.bench.specs.Benches.{board_at, signer_at, signed_by, holds}
+use Rattle.bench.specs.Benches.{board_at, signer_at, holds}
 use Rattle.bench.specs.Effects.{with_board_at, with_signature}
 use Rattle.bench.specs.Setups.{bench_of}
 use Rattle.delivery.specs.declared.delivered.Delivered.{Delivered}
@@ -84,11 +83,6 @@ module _ (L : Limits) (bs : List Board) (k s i : ℕ) where
 
   pub beyond-heard : length bs < k → heard L (nth bs k (fresh_board L)).delivered s i ≡ 0
   beyond-heard h = none-heard (λ l. h)
-
--- what was signed is what the signer's log has
-pub signed-log : (L : Limits) (c : Bench) (s i : ℕ) → signed_by L c s i ≡ entry_at (signer_at L c s).log i
-unfolding signed_by
-signed-log L c s i = refl
 
 -- on a bench on which nothing has happened, every board and every signer is a fresh one
 pub board-fresh : (L : Limits) (n sound k : ℕ) → board_at L (bench_of L n sound) k ≡ fresh_board L

@@ -1,6 +1,5 @@
 -- For each function, the laws that its proof goes by.
 use Rattle.bench.proofs.AnswerLaws.{step-answer, step-done, step-kept}
-use Rattle.bench.proofs.Demands.{agreed, history_from}
 use Rattle.bench.proofs.RunLaws.{after_next, after_none, answers-none, answers_next, history-written, length-answers, length-events, length-written, played-fits, played-room, sets-written}
 use Rattle.bench.proofs.SetupLaws.{limits-ground, marks-none, marks-next, marks-fail}
 use Rattle.bench.proofs.BenchLaws.{nobody-heard, beyond-heard}
@@ -9,7 +8,6 @@ use Rattle.bench.proofs.TurnLaws.{voting-high, voting-low, saying-board, turn-ma
 use Rattle.delivery.proofs.SetLaws.{set-leave, set-none, set-take}
 use Rattle.delivery.proofs.TestLaws.{and-no-left, and-no-right, and-yes-left, neg-in, neg-no, or-no-left, or-no-right, or_left, or_no, or_right}
 use Rattle.std.proofs.lemmas.List.{get_or-take}
-use Rattle.signer.proofs.ConditionalLaws.{if-false, if-true}
 use Rattle.signer.proofs.FromOneLaws.{nth_after, nth-any, nth-none, set_nth-index, set_nth-none, within-high, within-out, within_low}
 
 -- tests joined
@@ -19,24 +17,23 @@ pub ruleset rules_bench_heard_by = (nth-any, nobody-heard, beyond-heard)
 
 pub ruleset rules_table_voting = (voting-low, voting-high, nth-any)
 
-pub ruleset rules_event_event_known = (kind-known, kind-passes, kind-stops, if-true, if-false)
+pub ruleset rules_event_event_known = (kind-known, kind-passes, kind-stops)
 
-pub ruleset rules_bench_bench_fresh = (if-true, if-false, within-high)
+pub ruleset rules_bench_bench_fresh = (within-high)
 
 pub ruleset rules_bench_bench_holders = (set-none)
 
-pub ruleset rules_bench_bench_put = (set_nth-none, set_nth-index, nth-any, within-high, within_low, within-out)
+-- a board, or a signer, changed in its place
+pub ruleset rules_places = (set_nth-none, set_nth-index, nth-any, within-high, within_low, within-out)
 
-pub ruleset rules_bench_bench_next_move = (if-true, if-false, wait-waits, wait-refuses, wait-neither)
+pub ruleset rules_bench_bench_next_move = (wait-waits, wait-refuses, wait-neither)
 
 pub ruleset rules_bench_bench_turn = (saying-board, turn-made)
 
-pub ruleset rules_bench_bench_play = (length-answers, length-written, played-fits, played-room, history-written, limits-ground, history_from, agreed)
+pub ruleset rules_bench_bench_play = (played-room)
 
-pub ruleset rules_bench_bench_run = (length-events, length-answers, after_next, answers_next, after_none, answers-none, sets-written)
-
-pub ruleset rules_bench_bench_shown = (if-true, if-false)
+pub ruleset rules_bench_bench_run = (length-events, length-answers, after_none, answers-none, sets-written)
 
 pub ruleset rules_bench_bench_step = (step-done, step-kept, step-answer)
 
-pub ruleset rules_fresh_sound_of = (set-none, set-take, set-leave, marks-none, marks-next, marks-fail, nth_after, get_or-take, within-high)
+pub ruleset rules_fresh_sound_of = (set-none, set-take, set-leave, marks-none, marks-next, nth_after, get_or-take)

@@ -10,8 +10,8 @@ use Rattle.std.proofs.lemmas.Bool.Decides.{nat_tests}
 use borrow.Author.Tests.{eq-eqb}
 use Rattle.signer.specs.FromOne.{is_within}
 use Rattle.signer.proofs.ConditionalLaws.{if-true, if-false}
-use Rattle.delivery.specs.Tests.{◌and◌, ◌or◌, neg}
-use Rattle.delivery.proofs.TestLaws.{and-yes-left, and-no-left, and-under, or_left, or_right, or_no, or-no-left, or-no-right, or-false-left, or-false-right, neg-no, neg-in, neg-false, fails}
+use Rattle.delivery.specs.Tests.{◌or◌, neg}
+use Rattle.delivery.proofs.TestLaws.{and-under, or_left, or-no-left, or-false-left, or-false-right, neg-no, neg-in, neg-false, fails}
 use Rattle.signer.proofs.FromOneLaws.{within_low, within-high, within_in}
 use Rattle.bench.specs.Events.{turning, delivering, announcing, suspecting, trusting, signing, kind_number, kind_of, uses_other, uses_id}
 use Rattle.bench.specs.Table.{kind_row, boards_row, start_row, end_row, first_of, event_rows, state_rows, turn_rows, check_of}
@@ -33,21 +33,6 @@ unfolding neg
 not_same true b h = ap neg h
 not_same false b h = ap neg h
 
--- of two tests, each with what is asked where it passes, the one that passes alone decides
-pub first-asked : (a x b y : Bool) → a ≡ true → b ≡ false → ((a and x) or (b and y)) ≡ x
-first-asked a x b y p q = or-no-right _ _ (and-no-left _ _ q) ∙ and-yes-left _ _ p
-
-pub second-asked : (a x b y : Bool) → a ≡ false → b ≡ true → ((a and x) or (b and y)) ≡ y
-second-asked a x b y p q = or-no-left _ _ (and-no-left _ _ p) ∙ and-yes-left _ _ q
-
--- and where neither passes, nothing is asked
-pub none-asked : (a x b y : Bool) → a ≡ false → b ≡ false → ((a and x) or (b and y)) ≡ false
-none-asked a x b y p q = or_no _ _ (and-no-left _ _ p) (and-no-left _ _ q)
-
--- a number that is j is no other
-pub other : (k j i : ℕ) → k ≡ j → eqb j i ≡ false → eqb k i ≡ false
-other k j i h e = ap (λ (m : ℕ). eqb m i) h ∙ e
-
 -- a kind with another board that is no delivery is an announcement, suspicion or trust
 pub other-rest : (k : ℕ) → eqb k delivering ≡ false
     → uses_other k ≡ (eqb k announcing or eqb k suspecting or eqb k trusting)
@@ -59,14 +44,10 @@ pub id-rest : (k : ℕ) → eqb k announcing ≡ false → uses_id k ≡ (eqb k 
 unfolding uses_id
 id-rest k h = ap (λ (b : Bool). eqb k delivering or b) (or-no-left _ _ h)
 
--- a delivery and an announcement name another board
+-- a delivery names another board
 pub delivers-other : (k : ℕ) → k ≡ delivering → uses_other k ≡ true
 unfolding uses_other
 delivers-other k h = or_left _ _ (eq-eqb k delivering h)
-
-pub announces-other : (k : ℕ) → k ≡ announcing → uses_other k ≡ true
-unfolding uses_other
-announces-other k h = or_right _ _ (or_left _ _ (eq-eqb k announcing h))
 
 -- where row 11 does not apply, a is a board of the bench, and so is b if it is used
 module _ (c : Bench) (e : Event) (h : boards_row c e ≡ false) where

@@ -1,5 +1,5 @@
 -- Document 01, "Events": agreement, which is demand 3 as a whole, as one claim about a history.
-use Rattle.std.specs.Prelude.{ℕ, ◌≡◌, true, false, List, ◌∷◌, ◌++◌, ◌⊎◌, ◌↔◌}
+use Rattle.std.specs.Prelude.{ℕ, ◌≡◌, true, false, List, ◌∷◌, ◌++◌, ◌⊎◌, ◌↔◌, Some}
 use Rattle.signer.specs.FromOne.{is_within}
 use Rattle.signer.specs.Log.{entry_of}
 use Rattle.delivery.specs.Limits.{Limits}
@@ -8,7 +8,6 @@ use Rattle.delivery.specs.Sets.{in_set}
 use Rattle.delivery.specs.Owed.{receivers}
 use Rattle.delivery.specs.declared.round.Phase.TheVariants.{Opening}
 use Rattle.vote.specs.declared.rule.Move.TheVariants.{Decides}
-use Rattle.std.specs.Prelude.{Some}
 use Rattle.bench.specs.Events.{proposing, turning, delivering, announcing, signing}
 use Rattle.bench.specs.Benches.{heard_by, signed_by}
 use Rattle.bench.specs.Setups.{Setup, setup}

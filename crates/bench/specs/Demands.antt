@@ -1,10 +1,9 @@
 -- The three demands, each as one statement. proofs/Demands shows all three.
-use Rattle.std.specs.Prelude.{ℕ, ◌≤◌, ◌≡◌, true, List, [], ◌∷◌, Result, map, ◌⊎◌, length}
+use Rattle.std.specs.Prelude.{ℕ, ◌≤◌, ◌≡◌, true, List, [], ◌∷◌, Result, map, ◌⊎◌, length, Some}
 use Rattle.signer.specs.Signer.{grants}
 use Rattle.delivery.specs.Limits.{limits}
 use Rattle.vote.specs.Turns.{turn}
 use Rattle.vote.specs.declared.statement.Statement.{Statement}
-use Rattle.std.specs.Prelude.{Some}
 use Rattle.bench.specs.Benches.{is_sound, board_at, signer_at}
 use Rattle.bench.specs.Setups.{fresh_bench, fresh_of}
 use Rattle.bench.specs.Answers.{fresh_number, answer_number}

@@ -1,7 +1,6 @@
 -- Document 01, "Events": what an accepted event does, and an event as a whole.
-use Rattle.std.specs.Prelude.{ℕ, eqb}
+use Rattle.std.specs.Prelude.{ℕ, eqb, if◌then◌else◌, Option, None, Some}
 use Rattle.signer.specs.FromOne.{set_nth}
-use Rattle.std.specs.Prelude.{if◌then◌else◌}
 use Rattle.signer.specs.Signer.{sign}
 use Rattle.delivery.specs.Limits.{Limits}
 use Rattle.delivery.specs.Owed.{after_signing, after_delivery}
@@ -11,7 +10,6 @@ use Rattle.vote.specs.Turns.{turn}
 use Rattle.vote.specs.Announcements.{announce}
 use Rattle.vote.specs.declared.board.Board.{Board}
 use Rattle.vote.specs.declared.statement.Statement.{Statement}
-use Rattle.std.specs.Prelude.{Option, None, Some}
 use Rattle.bench.specs.Events.{proposing, turning, delivering, announcing, suspecting, trusting}
 use Rattle.bench.specs.Benches.{board_at, signer_at, holders}
 use Rattle.bench.specs.Answers.{is_accepted}

@@ -1,7 +1,6 @@
 -- Document 01, "Events" and "Schedule file and program": the kinds of events, the fields that each uses, and an event's
 -- bytes.
-use Rattle.std.specs.Prelude.{ℕ, ◌+◌, ◌*◌, Bool, List, Result, Ok, Err, eqb, get_or}
-use Rattle.std.specs.Prelude.{if◌then◌else◌}
+use Rattle.std.specs.Prelude.{ℕ, ◌+◌, ◌*◌, Bool, List, Result, Ok, Err, eqb, get_or, if◌then◌else◌}
 use Rattle.delivery.specs.Tests.{◌or◌}
 use Rattle.bench.specs.declared.answer.Refusal.{Refusal}
 use Rattle.bench.specs.declared.answer.Refusal.TheVariants.{NoKind}

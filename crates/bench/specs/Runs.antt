@@ -1,6 +1,5 @@
 -- Document 01, "Events" and "Schedule file and program": a list of events, one after another, and the bytes of a list.
-use Rattle.std.specs.Prelude.{ℕ, zero, suc, ◌/◌, ◌%◌, List, [], ◌∷◌, ◌++◌, Result, Ok, Err, eqb, leb, length, drop}
-use Rattle.std.specs.Prelude.{if◌then◌else◌}
+use Rattle.std.specs.Prelude.{ℕ, zero, suc, ◌/◌, ◌%◌, List, [], ◌∷◌, ◌++◌, Result, Ok, Err, eqb, leb, length, drop, if◌then◌else◌}
 use Rattle.delivery.specs.Limits.{Limits}
 use Rattle.bench.specs.Events.{event_bytes, event_from}
 use Rattle.bench.specs.Setups.{fresh_answer, fresh_bench}

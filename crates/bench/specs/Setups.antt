@@ -1,7 +1,6 @@
 -- Document 01, "Where an event or file stops": the call for a fresh bench, from n and the marks of the boards.
-use Rattle.std.specs.Prelude.{ℕ, Bool, List, Result, Ok, Err, eqb, leb, replicate}
+use Rattle.std.specs.Prelude.{ℕ, Bool, List, Result, Ok, Err, eqb, leb, replicate, if◌then◌else◌}
 use Rattle.signer.specs.FromOne.{nth}
-use Rattle.std.specs.Prelude.{if◌then◌else◌}
 use Rattle.signer.specs.Signer.{fresh_signer}
 use Rattle.delivery.specs.Counting.{every_in}
 use Rattle.delivery.specs.Limits.{Limits}

@@ -1,7 +1,6 @@
 -- Document 01, "Schedule file and program": what a bench shows of a board, and the letters.
-use Rattle.std.specs.Prelude.{ℕ}
+use Rattle.std.specs.Prelude.{ℕ, if◌then◌else◌}
 use Rattle.signer.specs.FromOne.{is_within}
-use Rattle.std.specs.Prelude.{if◌then◌else◌}
 use Rattle.delivery.specs.Limits.{Limits}
 use Rattle.vote.specs.declared.position.Position.{Position}
 use Rattle.vote.specs.declared.board.Status.{Status}

@@ -1,7 +1,6 @@
 -- Document 01, "Events", on agreement: what a list of events and its answers says by itself. No bench is looked at, and
 -- no row of the table: every event that was answered 0 is believed, whatever its fields hold, and no other is.
-use Rattle.std.specs.Prelude.{ℕ, List, [], ◌∷◌, eqb}
-use Rattle.std.specs.Prelude.{if◌then◌else◌}
+use Rattle.std.specs.Prelude.{ℕ, List, [], ◌∷◌, eqb, if◌then◌else◌, Option, None, Some}
 use Rattle.signer.specs.Log.{entry_of}
 use Rattle.delivery.specs.Tests.{◌and◌}
 use Rattle.delivery.specs.Limits.{Limits}
@@ -13,7 +12,6 @@ use Rattle.vote.specs.Turns.{position_after, said_in}
 use Rattle.vote.specs.declared.position.Position.{Position}
 use Rattle.vote.specs.declared.rule.Move.{Move}
 use Rattle.vote.specs.declared.statement.Statement.{Statement}
-use Rattle.std.specs.Prelude.{Option, None, Some}
 use Rattle.bench.specs.Events.{proposing, turning, delivering, suspecting, trusting}
 use Rattle.bench.specs.declared.event.Event.{Event}
 

@@ -1,8 +1,7 @@
 -- Document 01, "Where an event or file stops": the rows of the table that events meet, in its order. Each says when it
 -- applies, of the event e and, where it asks for more, the bench c as it then is.
-use Rattle.std.specs.Prelude.{ℕ, Bool, true, false, List, [], ◌∷◌, ◌++◌, Result, Ok, Err, eqb, leb, ltb}
+use Rattle.std.specs.Prelude.{ℕ, Bool, true, false, List, [], ◌∷◌, ◌++◌, Result, Ok, Err, eqb, leb, ltb, if◌then◌else◌, Option, None, Some}
 use Rattle.signer.specs.FromOne.{is_within}
-use Rattle.std.specs.Prelude.{if◌then◌else◌}
 use Rattle.signer.specs.Log.{is_identifier, entry_of}
 use Rattle.signer.specs.Signer.{grants}
 use Rattle.signer.specs.declared.signer.Signer.{Signer}
@@ -14,7 +13,6 @@ use Rattle.vote.specs.Ballots.{tally}
 use Rattle.vote.specs.Boards.{is_started, is_decided, is_ended, has_decided}
 use Rattle.vote.specs.Turns.{turn}
 use Rattle.vote.specs.declared.statement.Statement.{Statement}
-use Rattle.std.specs.Prelude.{Option, None, Some}
 use Rattle.vote.specs.declared.turn.Refusal.{Refusal as TurnRefusal}
 use Rattle.vote.specs.declared.turn.Refusal.TheVariants.{NotStarted, Ended, Waiting}
 use Rattle.bench.specs.Events.{proposing, turning, delivering, announcing, suspecting, trusting, signing, uses_other, uses_id, uses_value}

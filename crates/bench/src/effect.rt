@@ -1,5 +1,4 @@
-ghost use Rattle.std.specs.Prelude.{◌≡◌, ◌≢◌, Ok, Err, OnOk, OnErr};
-ghost use Rattle.std.specs.Prelude.{if◌then◌else◌};
+ghost use Rattle.std.specs.Prelude.{◌≡◌, ◌≢◌, Ok, Err, OnOk, OnErr, if◌then◌else◌};
 ghost use Rattle.delivery.specs.Limits.{limits};
 ghost use Rattle.vote.specs.Turns.{take};
 ghost use Rattle.bench.specs.Benches.{board_at, IsVoting};
@@ -38,7 +37,7 @@ impl Known {
 
 impl Bench {
     // Board k's signer is asked to sign a value under an identifier; nobody is where the number is no board's.
-    #[tactic(auto, using(crate::proofs::Rules::rules_bench_bench_put), unfolding(crate::specs::Effects::with_signature, crate::specs::Benches::signer_at))]
+    #[tactic(auto, using(crate::proofs::Rules::rules_places), unfolding(crate::specs::Effects::with_signature, crate::specs::Benches::signer_at))]
     fn sign(&mut self, k: u8, id: Identifier, value: u16)
         ensures { self.new ≡ with_signature limits self.old k id.0 value }
     {
@@ -60,7 +59,7 @@ impl Bench {
     }
 
     // Board k, which is voting, makes this move.
-    #[tactic(auto, using(crate::proofs::Rules::rules_bench_bench_put), unfolding(crate::specs::Benches::board_at, crate::specs::Effects::with_board_at))]
+    #[tactic(auto, using(crate::proofs::Rules::rules_places), unfolding(crate::specs::Benches::board_at, crate::specs::Effects::with_board_at))]
     fn make(&mut self, k: u8, step: Move)
         ensures { self.new ≡ with_board_at self.old k (take limits k (board_at limits self.old k) step).board }
     {
@@ -84,7 +83,7 @@ impl Bench {
     }
 
     // Board k delivers a statement, and echoes it.
-    #[tactic(auto, using(crate::proofs::Rules::rules_bench_bench_put), unfolding(crate::specs::Benches::board_at, crate::specs::Effects::after_hearing, crate::specs::Effects::with_owed, crate::specs::Effects::with_board_at))]
+    #[tactic(auto, using(crate::proofs::Rules::rules_places), unfolding(crate::specs::Benches::board_at, crate::specs::Effects::after_hearing, crate::specs::Effects::with_owed, crate::specs::Effects::with_board_at))]
     fn hear(&mut self, k: u8, s: Statement)
         ensures { self.new ≡ after_hearing limits self.old k s }
     {
@@ -97,7 +96,7 @@ impl Bench {
     }
 
     // Board a starts, is told of a decision, suspects or trusts, by the event's kind.
-    #[tactic(auto, using(crate::proofs::Rules::rules_bench_bench_put), unfolding(crate::specs::Benches::board_at, crate::specs::Effects::effect_of, crate::specs::Effects::with_board_at, crate::specs::Events::kind_number))]
+    #[tactic(auto, using(crate::proofs::Rules::rules_places), unfolding(crate::specs::Benches::board_at, crate::specs::Effects::effect_of, crate::specs::Effects::with_board_at, crate::specs::Events::kind_number))]
     fn tell(&mut self, e: &Known)
         requires { (e.now.kind ≢ turning) × (e.now.kind ≢ delivering) × (e.now.kind ≢ signing) }
         ensures { self.new ≡ effect_of limits self.old e.now }

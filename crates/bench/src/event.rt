@@ -1,5 +1,4 @@
-ghost use Rattle.std.specs.Prelude.{◌≡◌, Ok, Err, get_or};
-ghost use Rattle.std.specs.Prelude.{if◌then◌else◌};
+ghost use Rattle.std.specs.Prelude.{◌≡◌, Ok, Err, get_or, if◌then◌else◌};
 ghost use Rattle.bench.specs.Table.{kind_row};
 ghost use Rattle.bench.specs.declared.answer.Refusal.TheVariants.{NoKind};
 ghost use Rattle.bench.specs.Events.{kind_number, kind_of, uses_other, uses_id, uses_value, high_first, event_from};

@@ -70,7 +70,7 @@ fn standing(board: Board) -> Shown
 
 impl Bench {
     // How board k stands: its letter, its round and its value.
-    #[tactic(auto, using(crate::proofs::Rules::rules_bench_bench_shown), unfolding(crate::specs::Shows::shown))]
+    #[tactic(auto, unfolding(crate::specs::Shows::shown))]
     pub fn shown(&self, k: u8) -> Shown
         ensures { result ≡ shown limits self.now k }
     {

@@ -1,5 +1,4 @@
-ghost use Rattle.std.specs.Prelude.{◌≡◌, Ok, Err, IfOk, IfErr};
-ghost use Rattle.std.specs.Prelude.{if◌then◌else◌};
+ghost use Rattle.std.specs.Prelude.{◌≡◌, Ok, Err, IfOk, IfErr, if◌then◌else◌};
 ghost use Rattle.signer.specs.FromOne.{nth};
 ghost use Rattle.delivery.specs.Limits.{limits};
 ghost use Rattle.vote.specs.Boards.{fresh_board};
