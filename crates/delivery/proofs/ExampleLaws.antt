@@ -20,7 +20,7 @@ use Rattle.delivery.specs.Examples.{nine-blank, blank-blank, nine-blank-blank, n
 use Rattle.delivery.specs.declared.delivered.Delivered.{Delivered}
 use Rattle.delivery.proofs.TestLaws.{same_test}
 use Rattle.delivery.proofs.AllRoundsLaws.{opening-unsent, ballot-unopened}
-use Rattle.delivery.proofs.PassLaws.{lets-value, lets-nothing, lets-only, Counted, every_first, pass-next}
+use Rattle.delivery.proofs.PassLaws.{lets-value, lets-nothing, lets-only, Counted, every_first, pass-turn}
 
 -- what an allowance says of every value
 only : (v w : ℕ) → (v ≡ 0 → ⊥) → lets (Only (entry_of v)) w ≡ eqb w v
@@ -51,7 +51,7 @@ second n d b c a k l w =
     ap
     (λ (p : ℕ → Bool). p w)
     (sym
-    (pass-next
+    (pass-turn
     limits
     n
     (heard limits d)

@@ -301,22 +301,25 @@ module _ (L : Limits) (n : ℕ) (h : Store) where
   every-nobody r e f =
       every_value (allowed L n h r) (allowed-blank L n h r) (λ w z. nobody-allowed L n h r w e (omega (arith, f)) z)
 
-  -- the pass begins with every value, and each turn goes on from what is allowed: the opening's entry x, b blank
-  -- ballots and c for the opening's value turn the allowance a into a'
+  -- the pass begins with every value, and each turn goes on from what is allowed: in pass-turn the opening's entry x, b
+  -- blank ballots and c for the opening's value turn the allowance a into a'
   pub every_first : lets Every ≡ allowed L n h 1
   every_first = every_value (allowed L n h 1) (allowed-blank L n h 1) (λ w z. rw allowed-first (value-some w z))
 
-  pub pass-next : (a a' : Allowance) (r x b c : ℕ) → lets a ≡ allowed L n h r → (n ≡ 0 → ⊥) → 1 ≤ r
+  pub pass-next : (a b : Allowance) (r : ℕ) → 1 ≤ r → ((w : ℕ) → lets a w ≡ allowed L n h r w)
+      → ((w : ℕ) → lets b w ≡ allowed_after L n h (lets a) r w) → (w : ℕ) → lets b w ≡ allowed L n h (r + 1) w
+  pass-next a b r l f g w =
+      g w ∙ ap (λ (may : ℕ → Bool). allowed_after L n h may r w) (fun_ext f) ∙ sym (allowed-next L n h r w l)
+
+  -- the same by the two counts of a turn
+  pub pass-turn : (a a' : Allowance) (r x b c : ℕ) → lets a ≡ allowed L n h r → (n ≡ 0 → ⊥) → 1 ≤ r
       → x ≡ (if says (opening_entry L n h r) (lets a) then opening_entry L n h r else 0)
       → b ≡ count_in n (backs L h r (entry_of 0))
       → c ≡ count_in n (backs L h r x)
       → a' ≡ (if leb (quorum n) (b + min c (overlap n - 1)) then a else (if leb (quorum n) (b + c) then Only x else Nothing))
       → lets a' ≡ allowed L n h (r + 1)
-  pass-next a a' r x b c f some low opening blanks backers left =
+  pass-turn a a' r x b c f some low opening blanks backers left =
       let k : Counted L n h a r x b c a' =
       record { opening = opening; blanks = blanks; backers = backers; left = left } in
       fun_ext
-      (λ w.
-      counted_next L n h a r x b c a' k (omega (arith, some)) w
-      ∙ ap (λ (may : ℕ → Bool). allowed_after L n h may r w) f
-      ∙ sym (allowed-next L n h r w low))
+      (pass-next a a' r low (λ w. ap (λ (may : ℕ → Bool). may w) f) (counted_next L n h a r x b c a' k (omega (arith, some))))
