@@ -9,7 +9,7 @@ use mathlib.Core.Logic.{◌⊎◌, inl, inr, ⊎_elim}
 use Rattle.signer.proofs.ConditionalLaws.{if-true, if-false}
 use Rattle.delivery.specs.Limits.{Limits}
 use Rattle.delivery.proofs.TestLaws.{decided}
-use Rattle.vote.specs.Turns.{turn_number}
+use Rattle.vote.specs.Turns.{turn_number, numbered}
 use Rattle.vote.proofs.TurnLaws.{refusal-within as turn-within}
 use Rattle.vote.specs.declared.turn.Refusal.{Refusal as TurnRefusal}
 use Rattle.vote.specs.declared.turn.Refusal.TheVariants.{NotStarted, Ended, Waiting}
@@ -124,6 +124,11 @@ refusal-within AlreadyDelivered = inr (omega arith, omega arith)
 refusal-within NotDecided = inr (omega arith, omega arith)
 refusal-within FewBallots = inr (omega arith, omega arith)
 refusal-within MustWait = inr (turn-within Waiting)
+
+-- an event's answer has its number as any answer has
+pub answer-numbered : (a : Result (Unit {0}) Refusal) → numbered refusal_number a ≡ answer_number a
+unfolding answer_number
+answer-numbered a = refl
 
 pub answer-within : (a : Result (Unit {0}) Refusal) → (answer_number a ≡ 0) ⊎ IsEventRow (answer_number a)
 unfolding answer_number

@@ -1,6 +1,6 @@
 -- Document 01, "Where an event or file stops": the answers and their numbers in its table.
-use Rattle.std.specs.Prelude.{ℕ, Bool, Result, Ok, Err, eqb}
-use Rattle.vote.specs.Turns.{turn_number}
+use Rattle.std.specs.Prelude.{ℕ, Bool, Result, eqb}
+use Rattle.vote.specs.Turns.{turn_number, numbered}
 use Rattle.vote.specs.declared.turn.Refusal.TheVariants.{NotStarted, Ended, Waiting}
 use Rattle.bench.specs.declared.answer.Refusal.{Refusal}
 use Rattle.bench.specs.declared.answer.Refusal.TheVariants.{
@@ -27,8 +27,7 @@ setup_number NoBus = 2
 setup_number NoMark = 3
 
 unfoldable pub fresh_number : Result (Unit {0}) SetupFault → ℕ
-fresh_number (Ok _) = 0
-fresh_number (Err fault) = setup_number fault
+fresh_number a = numbered setup_number a
 
 -- An event is refused by a row of the table. What a board itself answers to its turn has the vote's number: 15, 16 and 22.
 unfoldable pub refusal_number : Refusal → ℕ
@@ -47,8 +46,7 @@ refusal_number FewBallots = 21
 refusal_number MustWait = turn_number Waiting
 
 unfoldable pub answer_number : Result (Unit {0}) Refusal → ℕ
-answer_number (Ok _) = 0
-answer_number (Err refusal) = refusal_number refusal
+answer_number a = numbered refusal_number a
 
 -- an event is accepted if it is answered 0
 unfoldable pub is_accepted : Result (Unit {0}) Refusal → Bool

@@ -1,13 +1,12 @@
-ghost use Rattle.std.specs.Prelude.{◌≡◌};
-ghost use Rattle.bench.specs.Answers.{setup_number, refusal_number, answer_number};
+ghost use Rattle.bench.specs.Answers.{setup_number, refusal_number};
 
-use vote::Refusal as TurnRefusal;
+use vote::{Numbered, Refusal as TurnRefusal};
 
-// Why the call for a fresh bench is refused.
+// Why the call for a fresh bench is refused, with its number in document 01's table.
 #[derive(Clone, Copy, Debug, PartialEq, Eq)]
 pub enum SetupFault {
-    NoBus,
-    NoMark,
+    NoBus = 2,
+    NoMark = 3,
 }
 
 // Why an event is refused: the first row of the table that applies.
@@ -28,25 +27,21 @@ pub enum Refusal {
     MustWait,
 }
 
-impl SetupFault {
-    // Its number in document 01's table.
+impl Numbered for SetupFault {
+    ghost number_in_table = { setup_number };
+
     #[tactic(auto, unfolding(crate::specs::Answers::setup_number))]
-    pub fn number(self) -> u8
-        ensures { result ≡ setup_number self }
-    {
-        match self {
-            SetupFault::NoBus => 2,
-            SetupFault::NoMark => 3,
-        }
+    fn number(self) -> u8 {
+        self as u8
     }
 }
 
-impl Refusal {
-    // Its number in document 01's table. Those that a board gives to its turn have the vote's.
+impl Numbered for Refusal {
+    ghost number_in_table = { refusal_number };
+
+    // Those that a board gives to its turn have the vote's numbers, so the enum has none of its own.
     #[tactic(auto, unfolding(crate::specs::Answers::refusal_number))]
-    pub fn number(self) -> u8
-        ensures { result ≡ refusal_number self }
-    {
+    fn number(self) -> u8 {
         match self {
             Refusal::NoKind => 10,
             Refusal::NoBoard => 11,
@@ -61,17 +56,6 @@ impl Refusal {
             Refusal::NotDecided => 20,
             Refusal::FewBallots => 21,
             Refusal::MustWait => TurnRefusal::Waiting.number(),
-        }
-    }
-
-    // An answer's number in that table; 0 where the event is accepted.
-    #[tactic(auto, unfolding(crate::specs::Answers::answer_number))]
-    pub fn number_of(answer: Result<(), Refusal>) -> u8
-        ensures { result ≡ answer_number answer }
-    {
-        match answer {
-            Ok(()) => 0,
-            Err(refusal) => refusal.number(),
         }
     }
 }

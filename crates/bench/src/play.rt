@@ -5,9 +5,10 @@ ghost use Rattle.bench.specs.Runs.{events_in, after, answers_to, written, ending
 ghost use Rattle.bench.specs.Claim.{Agreement};
 ghost use Rattle.bench.specs.Demands.{played_history};
 
-use crate::answer::{Refusal, SetupFault};
+use crate::answer::SetupFault;
 use crate::bench::Bench;
 use crate::event::Event;
+use vote::number_of;
 
 // Why a list was not played: its bytes are not whole events, or there is no room for its answers.
 #[derive(Clone, Copy, Debug, PartialEq, Eq)]
@@ -50,7 +51,7 @@ impl Bench {
     {
         for k in 0..count {
             let event = Event::read(&events[Event::BYTES * k..]);
-            answers[k] = Refusal::number_of(self.step(event));
+            answers[k] = number_of(self.step(event));
         }
     }
 

@@ -12,6 +12,7 @@ ghost use Rattle.bench.specs.Runs.{after};
 use bench::{Bench, Event, Kind, Refusal, Unplayed};
 use signer::Identifier;
 use std::io;
+use vote::number_of;
 
 // The marks of the boards: which of them are faulty.
 const NONE: [u8; Bench::BOARDS as usize] = [0, 0, 0, 0, 0, 0, 0];
@@ -213,11 +214,7 @@ fn play(
 ) -> io::Result<()> {
     print!(rt; "{title}")?;
     let played = Bench::play(n, marks, events, answers);
-    let fresh = match played.answer {
-        Ok(()) => 0,
-        Err(fault) => fault.number(),
-    };
-    println!(rt; "fresh {fresh}")?;
+    println!(rt; "fresh {}", number_of(played.answer))?;
     match played.ending {
         Ok(()) => write_answers(rt, &answers[..events.len() / Event::BYTES])?,
         Err(Unplayed::Ragged) => println!(rt; "not played: ragged")?,
@@ -421,9 +418,9 @@ fn answer_after(
 // A board alone proposes 700. With its third turn it decides, and a fourth is refused.
 fn later_turns(rt: &HostRuntime) -> io::Result<()> {
     println!(rt; "one board: its third turn, and its fourth")?;
-    let third = Refusal::number_of(answer_after(1, NONE, proposal(), turn(), 2));
+    let third = number_of(answer_after(1, NONE, proposal(), turn(), 2));
     println!(rt; "4 {third}")?;
-    let fourth = Refusal::number_of(answer_after(1, NONE, proposal(), turn(), 3));
+    let fourth = number_of(answer_after(1, NONE, proposal(), turn(), 3));
     println!(rt; "5 {fourth}")
 }
 

@@ -7,8 +7,9 @@ ghost use Rattle.fenderacai.specs.Rows.{row_size};
 ghost use Rattle.fenderacai.specs.Traces.{rows_of, traced};
 
 use crate::row::{self, Words};
-use bench::{Bench, Event, Refusal};
+use bench::{Bench, Event};
 use schedule::Schedule;
+use vote::number_of;
 
 impl Words<'_> {
     // Plays so many events, and puts a row for each.
@@ -21,7 +22,7 @@ impl Words<'_> {
     {
         for k in 0..count {
             let answer = bench.apply(Event::read(&events[Event::BYTES * k..]));
-            self.row(Refusal::number_of(answer), &bench);
+            self.row(number_of(answer), &bench);
         }
     }
 }

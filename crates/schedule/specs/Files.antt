@@ -7,6 +7,7 @@ use Rattle.delivery.specs.Bus.{is_board}
 use Rattle.bench.specs.Events.{high_first, event_bytes, event_from}
 use Rattle.bench.specs.Setups.{is_mark, fresh_bench}
 use Rattle.bench.specs.Answers.{setup_number}
+use Rattle.vote.specs.Turns.{numbered}
 use Rattle.bench.specs.declared.bench.Bench.{Bench}
 use Rattle.bench.specs.declared.event.Event.{Event}
 use Rattle.bench.specs.declared.answer.SetupFault.TheVariants as setup
@@ -23,8 +24,7 @@ fault_number LeftOver = 5
 
 -- and of how a file is answered: it is taken, or refused with a fault
 unfoldable pub file_number : Result (Unit {0}) Fault → ℕ
-file_number (Ok u) = 0
-file_number (Err f) = fault_number f
+file_number a = numbered fault_number a
 
 -- What reading from the front of some bytes gives: what stands there, with the bytes after it, or the fault that was met.
 abbrev pub Reading : Type 0 → Type 0

@@ -4,6 +4,7 @@ ghost use Rattle.schedule.specs.Prints.{decimal, event_line, board_line, refused
 
 use crate::fault::Fault;
 use bench::Shown;
+use vote::Numbered;
 
 // A text that is put into a buffer from its start on, as far as the buffer goes, and how long it is so far. So in an empty
 // buffer it tells its length.

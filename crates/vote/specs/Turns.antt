@@ -28,10 +28,14 @@ turn_number NotStarted = 15
 turn_number Ended = 16
 turn_number Waiting = 22
 
--- and those of the answers: 0 where the turn is taken
+-- The number of an answer, of whatever may be refused: 0 where it is not, else the refusal's.
+abbrev pub numbered : {R : Type 0} → (R → ℕ) → Result (Unit {0}) R → ℕ
+numbered number (Ok done) = 0
+numbered number (Err refusal) = number refusal
+
+-- and so of a turn
 unfoldable pub turn_answer : Result (Unit {0}) Refusal → ℕ
-turn_answer (Ok done) = 0
-turn_answer (Err refusal) = turn_number refusal
+turn_answer a = numbered turn_number a
 
 -- a turn in which the board waits is answered so, and every other is done
 unfoldable pub answer_to : Move → Result (Unit {0}) Refusal

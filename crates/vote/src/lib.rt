@@ -3,12 +3,14 @@
 #![tactic(auto)]
 
 mod board;
+mod numbered;
 mod position;
 mod rule;
 mod statement;
 mod turn;
 
 pub use board::{Board, Decision, Status};
+pub use numbered::{Numbered, number_of};
 pub use position::{Position, Stage};
 pub use rule::Move;
 pub use statement::Statement;

@@ -2,9 +2,10 @@ ghost use Rattle.std.specs.Prelude.{◌≡◌};
 ghost use Rattle.delivery.specs.Limits.{limits};
 ghost use Rattle.delivery.specs.Delivered.{heard};
 ghost use Rattle.vote.specs.Rule.{rule};
-ghost use Rattle.vote.specs.Turns.{turn_number, turn_answer, position_after, status_after, said_in, answer_to, refuse, take, turn};
+ghost use Rattle.vote.specs.Turns.{turn_number, position_after, status_after, said_in, answer_to, refuse, take, turn};
 
 use crate::board::{Board, Decision, Status};
+use crate::numbered::Numbered;
 use crate::position::{Position, Stage};
 use crate::rule::Move;
 use crate::statement::Statement;
@@ -26,23 +27,12 @@ pub struct Turn {
     pub signed: Option<Statement>,
 }
 
-impl Refusal {
-    #[tactic(auto, unfolding(crate::specs::Turns::turn_number))]
-    pub fn number(self) -> u8
-        ensures { result ≡ turn_number self }
-    {
-        self as u8
-    }
+impl Numbered for Refusal {
+    ghost number_in_table = { turn_number };
 
-    // The number of an answer in that table: 0 where the turn is taken.
-    #[tactic(auto, unfolding(crate::specs::Turns::turn_answer))]
-    pub fn number_of(answer: Result<(), Refusal>) -> u8
-        ensures { result ≡ turn_answer answer }
-    {
-        match answer {
-            Ok(()) => 0,
-            Err(refusal) => refusal.number(),
-        }
+    #[tactic(auto, unfolding(crate::specs::Turns::turn_number))]
+    fn number(self) -> u8 {
+        self as u8
     }
 }
 

@@ -5,7 +5,7 @@
 use delivery::{BoardSet, Delivered, Phase, Round};
 use signer::Identifier;
 use std::{fmt, io};
-use vote::{Board, Position, Refusal, Stage, Statement, Status};
+use vote::{Board, Position, Stage, Statement, Status, number_of};
 
 // A step of a run; a statement has its speaker, round and value.
 #[derive(Clone, Copy)]
@@ -240,7 +240,7 @@ impl Seat {
         let round = self.board.position.round;
         let turn = self.board.turn(self.n, self.me);
         self.board = turn.board;
-        print!(rt; " {}", Refusal::number_of(turn.answer))?;
+        print!(rt; " {}", number_of(turn.answer))?;
         match turn.signed {
             None => print!(rt; "{nothing}"),
             Some(s) => print!(rt;
