@@ -10,12 +10,12 @@ use vote::{Board, Status};
 // How a board stands; a number that is no board of the bench is absent.
 #[derive(Clone, Copy, Debug, PartialEq, Eq)]
 pub enum Letter {
-    Faulty,
-    NotStarted,
-    Voting,
-    Spent,
-    Decided,
-    Absent,
+    Faulty = b'F' as isize,
+    NotStarted = b'N' as isize,
+    Voting = b'W' as isize,
+    Spent = b'X' as isize,
+    Decided = b'D' as isize,
+    Absent = b'-' as isize,
 }
 
 // What a bench shows of a board.
@@ -32,14 +32,7 @@ impl Letter {
     pub fn byte(self) -> u8
         ensures { result ≡ letter_byte self }
     {
-        match self {
-            Letter::Faulty => b'F',
-            Letter::NotStarted => b'N',
-            Letter::Voting => b'W',
-            Letter::Spent => b'X',
-            Letter::Decided => b'D',
-            Letter::Absent => b'-',
-        }
+        self as u8
     }
 }
 

@@ -72,10 +72,7 @@ impl Known {
 fn refuses(signer: &Signer, said: Option<Statement>) -> bool
     ensures { result ≡ refuses limits signer.now said }
 {
-    match said {
-        Some(s) => !signer.grants(s.id),
-        None => false,
-    }
+    said.is_some_and(|s| !signer.grants(s.id))
 }
 
 // Board k of a list, which is voting, and so one of the list's.
