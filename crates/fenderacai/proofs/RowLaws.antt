@@ -13,9 +13,9 @@ use Rattle.bench.specs.declared.bench.Bench.{Bench}
 use Rattle.vote.specs.declared.board.Board.{Board}
 use Rattle.vote.specs.declared.board.Status.{Status}
 use Rattle.vote.specs.declared.position.Position.{Position}
-use Rattle.schedule.specs.Prints.{parts_to, PutAt}
+use Rattle.schedule.specs.Prints.{PutAt}
 use Rattle.schedule.proofs.PrintLaws.{put-length, length-parts}
-use Rattle.fenderacai.specs.Rows.{status_words, position_words, board_words, words_to, table_words, row, status_size, position_size, board_size, table_size, row_size}
+use Rattle.fenderacai.specs.Rows.{status_words, position_words, board_words, boards_words, words_to, table_words, delivered_words, row, status_size, position_size, board_size, table_size, row_size}
 
 -- how many words a status, a position and a board are
 pub length-status : (x : Status) → length (status_words x) ≡ status_size
@@ -41,17 +41,11 @@ length-table f =
 
 -- and the parts of a row
 module _ (c : Bench) where
-  abbrev boards : List ℕ
-  boards = parts_to limits.boards (λ k. board_words (board_at limits c k) (signer_at limits c k).last.0)
-
-  pub length-boards : length boards ≡ limits.boards * board_size
+  pub length-boards : length (boards_words limits c) ≡ limits.boards * board_size
   length-boards =
       length-parts board_size limits.boards _ (λ k. length-board (board_at limits c k) (signer_at limits c k).last.0)
 
-  abbrev delivered : List ℕ
-  delivered = parts_to limits.boards (λ k. table_words limits (heard_by limits c k))
-
-  pub length-delivered : length delivered ≡ limits.boards * table_size limits
+  pub length-delivered : length (delivered_words limits c) ≡ limits.boards * table_size limits
   length-delivered = length-parts (table_size limits) limits.boards _ (λ k. length-table (heard_by limits c k))
 
   pub length-row : (answer : ℕ) → length (row limits answer c) ≡ row_size limits
@@ -60,6 +54,8 @@ module _ (c : Bench) where
       let front = answer ∷ c.n ∷ c.sound ∷ [] in
       let signed = table_words limits (signed_by limits c) in
       let owed = table_words limits (receivers limits c.owed) in
+      let boards = boards_words limits c in
+      let delivered = delivered_words limits c in
       length-append (front ++ boards ++ signed ++ delivered) owed
       ∙ ap (λ (m : ℕ). m + length owed) (length-append (front ++ boards ++ signed) delivered)
       ∙ ap (λ (m : ℕ). m + length delivered + length owed) (length-append (front ++ boards) signed)

@@ -53,6 +53,13 @@ words_to n f = parts_to n (λ k. f k ∷ [])
 unfoldable pub table_words : Limits → (ℕ → ℕ → ℕ) → List ℕ
 table_words L f = parts_to L.boards (λ s. words_to L.identifiers (f s))
 
+-- every board, and what each delivered
+abbrev pub boards_words : Limits → Bench → List ℕ
+boards_words L c = parts_to L.boards (λ k. board_words (board_at L c k) (signer_at L c k).last.0)
+
+abbrev pub delivered_words : Limits → Bench → List ℕ
+delivered_words L c = parts_to L.boards (λ k. table_words L (heard_by L c k))
+
 -- What the calls within that write a table ask of what tells its words: whatever it tells of a speaker and an identifier
 -- that there can be is f's word of them.
 abbrev pub Tells : Limits → (ℕ → Identifier → ℕ → Type 0) → (ℕ → ℕ → ℕ) → Type 0
@@ -63,9 +70,9 @@ Tells L told f = (s i w : ℕ) → s ≤ L.boards → i ≤ L.identifiers → to
 unfoldable pub row : Limits → ℕ → Bench → List ℕ
 row L answer c =
     (answer ∷ c.n ∷ c.sound ∷ [])
-    ++ parts_to L.boards (λ k. board_words (board_at L c k) (signer_at L c k).last.0)
+    ++ boards_words L c
     ++ table_words L (signed_by L c)
-    ++ parts_to L.boards (λ k. table_words L (heard_by L c k))
+    ++ delivered_words L c
     ++ table_words L (receivers L c.owed)
 
 -- how many words stand at the front of a row, and how many a status, a position, a board, a table and a row have

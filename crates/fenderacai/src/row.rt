@@ -1,8 +1,7 @@
 ghost use Rattle.std.specs.Prelude.{◌+◌, ◌*◌, ◌≤◌, ◌≡◌, ℕ, length};
 ghost use Rattle.delivery.specs.Limits.{limits};
-ghost use Rattle.bench.specs.Benches.{board_at, signer_at, heard_by};
-ghost use Rattle.schedule.specs.Prints.{parts_to, PutAt};
-ghost use Rattle.fenderacai.specs.Rows.{status_number, decision, board_words, table_words, Tells, row, board_size, table_size, row_size};
+ghost use Rattle.schedule.specs.Prints.{PutAt};
+ghost use Rattle.fenderacai.specs.Rows.{status_number, decision, board_words, boards_words, table_words, delivered_words, Tells, row, board_size, table_size, row_size};
 
 use bench::Bench;
 use delivery::{Delivered, Round};
@@ -94,7 +93,7 @@ impl Words<'_> {
     #[tactic(auto, using(crate::proofs::Rules::rules_row_words_boards))]
     fn boards(&mut self, bench: &Bench)
         requires { self.old.length + limits.boards * board_size ≤ length self.old.out.now }
-        ensures words { PutAt (parts_to limits.boards (λ k. board_words (board_at limits bench.now k) (signer_at limits bench.now k).last.0)) self.old.out.now self.old.length self.new.out.now self.new.length }
+        ensures words { PutAt (boards_words limits bench.now) self.old.out.now self.old.length self.new.out.now self.new.length }
         ensures same { self.new.out.ghost_name ≡ self.old.out.ghost_name }
     {
         for k in 0..Bench::BOARDS {
@@ -121,7 +120,7 @@ impl Words<'_> {
     #[tactic(auto, using(crate::proofs::Rules::rules_row_words_delivered))]
     fn delivered(&mut self, bench: &Bench)
         requires { self.old.length + limits.boards * table_size limits ≤ length self.old.out.now }
-        ensures words { PutAt (parts_to limits.boards (λ k. table_words limits (heard_by limits bench.now k))) self.old.out.now self.old.length self.new.out.now self.new.length }
+        ensures words { PutAt (delivered_words limits bench.now) self.old.out.now self.old.length self.new.out.now self.new.length }
         ensures same { self.new.out.ghost_name ≡ self.old.out.ghost_name }
     {
         for k in 0..Bench::BOARDS {
