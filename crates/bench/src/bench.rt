@@ -10,7 +10,8 @@ use delivery::{BoardSet, Delivered, Owed};
 use signer::{Identifier, Signer, from_one};
 use vote::Board;
 
-// The boards of a bus, 1 to n, the sound ones among them, their signers, and the copies that are owed.
+// The boards of a bus, 1 to n, the sound ones among them, their signers, and the copies that are owed. The arrays are for as
+// many boards as there can be, with n beside them: a bench has fixed memory (a rule of the project).
 #[derive(Clone, Copy)]
 pub struct Bench {
     pub n: u8,
@@ -62,7 +63,8 @@ impl Bench {
         from_one::nth(&self.signers, k, Signer::fresh())
     }
 
-    // What board k has delivered from a speaker under an identifier, as a log's entry.
+    // What board k has delivered from a speaker under an identifier, as a log's entry; these two stay apart here and below, as
+    // in `Delivered`.
     #[tactic(auto, unfolding(crate::specs::Benches::board_at))]
     pub fn delivered(&self, k: u8, speaker: u8, id: Identifier) -> u32
         ensures { result ≡ heard_by limits self.now k speaker id.0 }

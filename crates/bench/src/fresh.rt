@@ -71,7 +71,8 @@ impl Bench {
         }
     }
 
-    // A fresh bench of n boards; marks are 0 for sound and 1 for faulty, and those after the n-th are not read.
+    // A fresh bench of n boards; marks are 0 for sound and 1 for faulty, and those after the n-th are not read. The call is
+    // made from n and all seven marks (a rule of the project), so these stay two arguments, here and where a list is played.
     #[tactic(auto, using(crate::proofs::Rules::rules_bench_bench_fresh), unfolding(crate::specs::Setups::fresh_of, crate::specs::Setups::fresh_bench, crate::specs::Setups::fresh_answer, crate::specs::Setups::setup_by))]
     pub fn fresh(n: u8, marks: [u8; Bench::BOARDS as usize]) -> Fresh
         ensures { result ≡ fresh_of limits n marks }

@@ -18,7 +18,7 @@ pub enum Unplayed {
 }
 
 // What comes of playing a list into a fresh bench: the bench, the answer to the call for the fresh one, and whether the
-// list was played.
+// list was played. It is no `Result` of a bench, since a refused call and an unplayed list leave one too.
 #[derive(Clone, Copy)]
 pub struct Played {
     pub bench: Bench,

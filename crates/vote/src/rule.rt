@@ -144,7 +144,7 @@ impl<'a> Outlook<'a> {
 }
 
 impl Position {
-    // What board `me` of n does in its turn.
+    // What board `me` of n does in its turn. The two numbers stay apart, as in `Board::next_move`.
     #[tactic(auto, unfolding(crate::specs::Rule::rule, crate::specs::Rule::move_at))]
     pub fn rule(&self, n: u8, me: u8, delivered: &Delivered) -> Move
         ensures { result ≡ rule limits n me self.now (heard limits delivered.now) }

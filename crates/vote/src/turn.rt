@@ -19,7 +19,8 @@ pub enum Refusal {
     Waiting = 22,
 }
 
-// What comes of a turn: the board afterwards, the answer, and what it has to say. The caller has that signed.
+// What comes of a turn: the board afterwards, the answer, and what it has to say. The caller has that signed. The struct is
+// a rule of the project; a turn that is refused hands its board back too.
 #[derive(Clone, Copy)]
 pub struct Turn {
     pub board: Board,
@@ -102,7 +103,8 @@ impl Position {
 }
 
 impl Board {
-    // What board `me` of n does in its turn, if it is voting.
+    // What board `me` of n does in its turn, if it is voting. The two numbers stay apart, here and in `turn`: a pair of them
+    // would be made for the call and taken apart at once, so no plainer.
     pub fn next_move(&self, n: u8, me: u8) -> Move
         ensures { result ≡ rule limits n me self.now.position (heard limits self.now.delivered) }
     {
