@@ -11,21 +11,11 @@ use Rattle.delivery.specs.Owed.{receivers}
 use Rattle.bench.specs.Benches.{board_at, signer_at, signed_by, heard_by}
 use Rattle.bench.specs.declared.bench.Bench.{Bench}
 use Rattle.vote.specs.declared.board.Board.{Board}
-use Rattle.vote.specs.declared.board.Status.{Status}
-use Rattle.vote.specs.declared.position.Position.{Position}
 use Rattle.schedule.specs.Prints.{PutAt}
 use Rattle.schedule.proofs.PrintLaws.{put-length, length-parts}
-use Rattle.fenderacai.specs.Rows.{status_words, position_words, board_words, boards_words, words_to, table_words, delivered_words, row, status_size, position_size, board_size, table_size, row_size}
+use Rattle.fenderacai.specs.Rows.{status_words, position_words, board_words, boards_words, words_to, table_words, delivered_words, row, board_size, table_size, row_size}
 
--- how many words a status, a position and a board are
-pub length-status : (x : Status) → length (status_words x) ≡ status_size
-unfolding status_words
-length-status x = refl
-
-pub length-position : (p : Position) → length (position_words p) ≡ position_size
-unfolding position_words
-length-position p = refl
-
+-- how many words a board is
 pub length-board : (b : Board) (last : ℕ) → length (board_words b last) ≡ board_size
 unfolding board_words status_words position_words
 length-board b last = refl

@@ -58,7 +58,6 @@ fn decision(status: Status) -> Decision
 // Each of these puts some words after those that are there.
 impl Words<'_> {
     // Words as they stand.
-    #[tactic(auto, using(crate::proofs::Rules::rules_row_words_list))]
     fn list(&mut self, words: &[u32])
         requires { self.old.length + length words.now ≤ length self.old.out.now }
         ensures words { PutAt words.now self.old.out.now self.old.length self.new.out.now self.new.length }
@@ -90,7 +89,6 @@ impl Words<'_> {
     }
 
     // Every board.
-    #[tactic(auto, using(crate::proofs::Rules::rules_row_words_boards))]
     fn boards(&mut self, bench: &Bench)
         requires { self.old.length + limits.boards * board_size ≤ length self.old.out.now }
         ensures words { PutAt (boards_words limits bench.now) self.old.out.now self.old.length self.new.out.now self.new.length }
@@ -102,7 +100,6 @@ impl Words<'_> {
     }
 
     // A table: for each speaker a word for each identifier.
-    #[tactic(auto, using(crate::proofs::Rules::rules_row_words_table))]
     fn table<F: Fn(u8, Identifier) -> u32>(&mut self, word: F)
         requires calls { F.IsAlwaysCallable word }
         requires room { self.old.length + table_size limits ≤ length self.old.out.now }
@@ -117,7 +114,6 @@ impl Words<'_> {
     }
 
     // What each board delivered.
-    #[tactic(auto, using(crate::proofs::Rules::rules_row_words_delivered))]
     fn delivered(&mut self, bench: &Bench)
         requires { self.old.length + limits.boards * table_size limits ≤ length self.old.out.now }
         ensures words { PutAt (delivered_words limits bench.now) self.old.out.now self.old.length self.new.out.now self.new.length }
@@ -130,7 +126,6 @@ impl Words<'_> {
     }
 
     // A row.
-    #[tactic(auto, using(crate::proofs::Rules::rules_row_words_row), unfolding(crate::specs::Rows::row))]
     pub(crate) fn row(&mut self, answer: u8, bench: &Bench)
         requires { self.old.length + row_size limits ≤ length self.old.out.now }
         ensures words { PutAt (row limits answer bench.now) self.old.out.now self.old.length self.new.out.now self.new.length }

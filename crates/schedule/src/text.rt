@@ -42,7 +42,6 @@ impl Text<'_> {
     }
 
     // A text as it stands.
-    #[tactic(auto, using(crate::proofs::Rules::rules_text_word))]
     pub(crate) fn word(&mut self, text: &[u8])
         requires { self.old.length + length text.now ≤ longest_print limits }
         ensures bytes { PutAt text.now self.old.out.now self.old.length self.new.out.now self.new.length }
@@ -54,7 +53,7 @@ impl Text<'_> {
     }
 
     // An event's line.
-    #[tactic(auto, using(crate::proofs::Rules::rules_text_event_line), unfolding(crate::specs::Prints::event_line))]
+    #[tactic(auto, unfolding(crate::specs::Prints::event_line))]
     pub(crate) fn event_line(&mut self, k: u16, answer: u8)
         requires { self.old.length + length (event_line k answer) ≤ longest_print limits }
         ensures bytes { PutAt (event_line k answer) self.old.out.now self.old.length self.new.out.now self.new.length }
@@ -67,7 +66,7 @@ impl Text<'_> {
     }
 
     // A board's line.
-    #[tactic(auto, using(crate::proofs::Rules::rules_text_board_line), unfolding(crate::specs::Prints::board_line))]
+    #[tactic(auto, unfolding(crate::specs::Prints::board_line))]
     pub(crate) fn board_line(&mut self, k: u8, shown: Shown)
         requires { self.old.length + length (board_line k shown) ≤ longest_print limits }
         ensures bytes { PutAt (board_line k shown) self.old.out.now self.old.length self.new.out.now self.new.length }
@@ -84,7 +83,7 @@ impl Text<'_> {
     }
 
     // The line of a refused file.
-    #[tactic(auto, using(crate::proofs::Rules::rules_text_refused_line), unfolding(crate::specs::Prints::refused_line))]
+    #[tactic(auto, unfolding(crate::specs::Prints::refused_line))]
     pub(crate) fn refused_line(&mut self, fault: Fault)
         requires { self.old.length + length (refused_line fault) ≤ longest_print limits }
         ensures bytes { PutAt (refused_line fault) self.old.out.now self.old.length self.new.out.now self.new.length }

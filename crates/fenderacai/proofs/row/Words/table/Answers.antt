@@ -2,10 +2,9 @@
 use Prim.Native.Nat.{◌+◌}
 use native.Mathlib.Omega.{arith}
 use mathlib.Core.Path.{◌≡◌, refl, ◌∙◌}
-use mathlib.Core.List.{[], ◌∷◌, append-nil}
+use mathlib.Core.List.{[], ◌∷◌}
 use Rattle.delivery.specs.Limits.{limits}
-use Rattle.schedule.specs.Prints.{parts_to}
-use Rattle.schedule.proofs.PrintLaws.{put-length, parts_none, parts_more, parts_then}
+use Rattle.schedule.proofs.PrintLaws.{put-length, put_then, parts_none, parts_more, parts_then}
 use Rattle.fenderacai.specs.Rows.{words_to, table_words}
 use Rattle.fenderacai.proofs.row.Words.table.Goals as goal
 
@@ -13,14 +12,11 @@ pub loop-k-init : goal.loop-k-init
 loop-k-init g c = record { place = omega arith; long = refl; words = λ f t. parts_none _; same = refl }
 
 pub loop-i-init : goal.loop-i-init
-unfolding parts_to
 loop-i-init g c =
     record {
       place = omega (arith, c.loop-k.invariant.place);
       long = c.loop-k.invariant.long;
-      words =
-          λ f t.
-          rw (append-nil (parts_to c.loop-k.k (λ s. words_to limits.identifiers (f s)))) (c.loop-k.invariant.words f t);
+      words = λ f t. put_then (c.loop-k.invariant.words f t) (parts_none _);
       same = c.loop-k.invariant.same;
     }
 
@@ -40,7 +36,7 @@ loop-i-preserved g c =
 
 pub loop-k-preserved : goal.loop-k-preserved
 loop-k-preserved g c =
-    let end : c.loop-i.i ≡ 64 = omega arith in
+    let end : c.loop-i.i ≡ limits.identifiers = omega arith in
     record {
       place = omega (arith, c.loop-i.invariant.place, end);
       long = c.loop-i.invariant.long;
@@ -52,4 +48,4 @@ loop-k-preserved g c =
 
 pub returns-clause-words : goal.returns-clause-words
 unfolding table_words
-returns-clause-words g c = λ f t. let end : c.loop-k.k ≡ 7 = omega arith in rw end at c.loop-k.invariant.words f t
+returns-clause-words g c = λ f t. let end : c.loop-k.k ≡ limits.boards = omega arith in rw end at c.loop-k.invariant.words f t

@@ -3,14 +3,13 @@ use Prim.Native.Nat.{◌+◌, ◌-◌, ◌≤◌, ◌<◌}
 use native.Mathlib.Omega.{arith}
 use mathlib.Core.Path.{◌≡◌, refl, sym, ◌∙◌}
 use Rattle.std.proofs.lemmas.List.{get_or-take, length-take}
-use mathlib.Core.List.{append-nil}
 use lib.ListN.{length, take, get_or}
 use Rattle.signer.specs.FromOne.{nth}
 use Rattle.signer.proofs.FromOneLaws.{nth_after}
 use Rattle.delivery.specs.Limits.{limits}
 use Rattle.bench.specs.Shows.{shown}
-use Rattle.schedule.specs.Prints.{event_line, event_lines, event_line_bytes, board_line, board_line_bytes, parts_to}
-use Rattle.schedule.proofs.PrintLaws.{event-within, board-within, parts_none, parts_next, parts_then}
+use Rattle.schedule.specs.Prints.{event_line, event_line_bytes, board_line, board_line_bytes}
+use Rattle.schedule.proofs.PrintLaws.{put_then, event-within, board-within, parts_none, parts_next, parts_then}
 use Rattle.schedule.proofs.report.Report.lines.Goals as goal
 
 pub loop-k-init : goal.loop-k-init
@@ -32,7 +31,6 @@ loop-k-preserved c =
     }
 
 pub loop-k-2-init : goal.loop-k-2-init
-unfolding parts_to
 loop-k-2-init c =
     let run = c.args.self.now in
     let long : run.count ≤ length run.answers = grind arith in
@@ -40,7 +38,7 @@ loop-k-2-init c =
     record {
       more = omega arith;
       short = omega (arith, end);
-      put = rw (append-nil (event_lines run.count run.answers)) (rw end at c.loop-k.invariant.put);
+      put = put_then (rw end at c.loop-k.invariant.put) (parts_none _);
       same = c.loop-k.invariant.same;
     }
 
