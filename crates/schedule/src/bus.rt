@@ -7,7 +7,8 @@ use crate::fault::Fault;
 use bench::Bench;
 use delivery::Delivered;
 
-// What stands at the front of a file: how many boards there are, and their marks; those after the n-th are 0.
+// What stands at the front of a file: how many boards there are, and their marks; those after the n-th are 0. All seven marks
+// beside n are what the call for a fresh bench takes (a rule of the project), so they are no slice.
 #[derive(Clone, Copy, Debug, PartialEq, Eq)]
 pub struct Bus {
     pub n: u8,
