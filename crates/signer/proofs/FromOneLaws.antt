@@ -4,15 +4,17 @@ use mathlib.Core.Path.{◌≡◌, refl, sym, ap, ◌∙◌}
 use mathlib.Core.Bool.{true, false}
 use borrow.Author.Tests.{le-leb, leb-true, leb-false}
 use lib.Dec.{leb}
-use mathlib.Core.List.{List, [], ◌∷◌}
+use mathlib.Core.List.{List}
 use mathlib.Core.Logic.{◌⊎◌, inl, inr}
 use native.Mathlib.Numerals.{add-one}
 use native.Mathlib.Omega.{arith}
-use native.Mathlib.Nat.{not-suc-le-zero, le_of_suc-le-suc}
 use native.Mathlib.Decide.{ℕ_discrete, dec_lt}
 use lib.ListN.{length, get_or, set, replicate, length-set, get_or-eq_default}
 use lib.Seq.{get_or-set_same, get_or-set_other, set_out, set-get_or}
-use Rattle.signer.specs.FromOne.{is_within, nth, set_nth}
+use Rattle.std.specs.Prelude.{Option, None, Some, unwrap_or}
+use Rattle.std.proofs.lemmas.List.{get_or_default}
+use Rattle.std.proofs.lemmas.Option.{unwrap_or-slice_get}
+use Rattle.signer.specs.FromOne.{is_within, get, nth, set_nth}
 use Rattle.signer.proofs.ConditionalLaws.{and_left, and_right}
 
 -- the numbers from 1 to a limit
@@ -44,12 +46,6 @@ module _ (limit k : ℕ) where
 from_one : (k : ℕ) → 1 ≤ k → k ≡ suc (k - 1)
 from_one k h = omega arith
 
--- an element that is there reads the same with another default
-get_d_any : {A : Type 0} (xs : List A) (i : ℕ) (a b : A) → i < length xs → get_or xs i a ≡ get_or xs i b
-get_d_any [] i a b h = absurd (not-suc-le-zero h)
-get_d_any (x ∷ xs) zero a b h = refl
-get_d_any (x ∷ xs) (suc i) a b h = get_d_any xs i a b (le_of_suc-le-suc h)
-
 module _ {A : Type 0} (xs : List A) where
   -- element k stands at index k - 1
   pub nth-index : (k : ℕ) (d : A) → 1 ≤ k → nth xs k d ≡ get_or xs (k - 1) d
@@ -66,7 +62,19 @@ module _ {A : Type 0} (xs : List A) where
 
   -- whatever would be read where there is none
   pub nth-any : (k : ℕ) (d e : A) → 1 ≤ k → k ≤ length xs → nth xs k d ≡ get_or xs (k - 1) e
-  nth-any k d e l h = nth-index k d l ∙ get_d_any xs (k - 1) d e (omega arith)
+  nth-any k d e l h = nth-index k d l ∙ get_or_default xs (k - 1) d e (omega arith)
+
+  -- it is what is lent, and the default where nothing is
+  pub nth_get : (k : ℕ) (d : A) → unwrap_or (get xs k) d ≡ nth xs k d
+  unfolding get nth
+  nth_get zero d = refl
+  nth_get (suc k) d = unwrap_or-slice_get xs k d
+
+  pub get_some : (k : ℕ) (a d : A) → Some a ≡ get xs k → nth xs k d ≡ a
+  get_some k a d e = sym (nth_get k d) ∙ ap (λ (o : Option A). unwrap_or o d) (sym e)
+
+  pub get_none : (k : ℕ) (d : A) → None ≡ get xs k → nth xs k d ≡ d
+  get_none k d e = sym (nth_get k d) ∙ ap (λ (o : Option A). unwrap_or o d) (sym e)
 
   -- there is no element 0, and none past the end
   pub nth-none : (k : ℕ) (d : A) → (1 ≤ k → length xs < k) → nth xs k d ≡ d

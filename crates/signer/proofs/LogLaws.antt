@@ -1,5 +1,5 @@
 -- Laws of logs. Assumes nothing.
-use Prim.Native.Nat.{ℕ, ◌+◌, zero, suc, ◌≤◌, ◌<◌}
+use Prim.Native.Nat.{ℕ, zero, suc, ◌≤◌, ◌<◌}
 use mathlib.Core.Path.{◌≡◌, refl, ap, subst⁻¹, ◌∙◌}
 use mathlib.Core.List.{List}
 use mathlib.Core.Bool.{true, false}
@@ -7,11 +7,11 @@ use native.Mathlib.Omega.{arith}
 use native.Mathlib.Decide.{ℕ_discrete}
 use borrow.Author.Tests.{le-leb, leb-true}
 use lib.Dec.{leb}
-use lib.ListN.{length, get_or, length-replicate}
+use lib.ListN.{length, length-replicate}
 use Rattle.signer.specs.Log.{values, value_of, entry_of, is_identifier, empty_log, entry_at, with_entry}
 use Rattle.signer.specs.declared.log.Log.{Log}
 use Rattle.signer.proofs.ConditionalLaws.{if-true, if-elim}
-use Rattle.signer.proofs.FromOneLaws.{within_low, within-high, within-out, nth_after, nth-none, set_nth-none, length-set_nth, nth-set-same, nth-set-other, nth-replicate}
+use Rattle.signer.proofs.FromOneLaws.{within_low, within-high, within-out, nth-none, set_nth-none, length-set_nth, nth-set-same, nth-set-other, nth-replicate}
 
 -- an entry's value
 pub value-entry : (v : ℕ) → v ≤ values → value_of (entry_of v) ≡ v
@@ -91,8 +91,3 @@ pub with-outside : (limit : ℕ) (l : Log) (i e : ℕ) → Whole limit l → is_
 unfolding with_entry
 with-outside limit l i e w h =
     ap (λ (es : List ℕ). record { entries = es }) (set_nth-none l.entries i e (outside limit l i w h))
-
--- the entry under the identifier that follows i stands at index i
-pub entry-after : (l : Log) (i : ℕ) → entry_at l (i + 1) ≡ get_or l.entries i 0
-unfolding entry_at
-entry-after l i = nth_after l.entries i 0

@@ -1,9 +1,14 @@
 -- Numbers from 1 to a limit, as document 01 numbers whatever it counts, and lists numbered so.
-use Rattle.std.specs.Prelude.{ℕ, zero, suc, Bool, ◌&&◌, List, leb, get_or, set}
+use Rattle.std.specs.Prelude.{ℕ, zero, suc, Bool, ◌&&◌, List, Option, None, leb, get_or, set, slice_get}
 
 -- k is a number from 1 to the limit
 unfoldable pub is_within : ℕ → ℕ → Bool
 is_within limit k = leb 1 k && leb k limit
+
+-- element k, where there is one
+unfoldable pub get : {A : Type 0} → List A → ℕ → Option A
+get xs zero = None
+get xs (suc k) = slice_get xs k
 
 -- element k, or d where there is none
 unfoldable pub nth : {A : Type 0} → List A → ℕ → A → A
