@@ -1,6 +1,6 @@
 -- Laws of the copies that are owed. Assumes nothing.
-use Prim.Native.Nat.{ℕ, ◌+◌, ◌-◌}
-use mathlib.Core.Path.{◌≡◌, refl, ap, sym, ◌∙◌}
+use Prim.Native.Nat.{ℕ, ◌-◌}
+use mathlib.Core.Path.{◌≡◌, ap, sym, ◌∙◌}
 use mathlib.Core.Bool.{Bool, true, false}
 use mathlib.Core.Logic.{◌⊎◌, ⊎_elim}
 use mathlib.Core.List.{List}
@@ -8,7 +8,7 @@ use native.Mathlib.Omega.{arith}
 use lib.Dec.{eqb}
 use lib.ListN.{length, get_or, set, length-replicate}
 use Rattle.signer.specs.Log.{is_identifier}
-use Rattle.signer.proofs.FromOneLaws.{within-out, nth-any, set_nth-index, set_nth-none, nth_after, length-set_nth, nth-set-same, nth-set-other, nth-change, nth-replicate, within_low, within-high}
+use Rattle.signer.proofs.FromOneLaws.{within-out, nth-any, set_nth-index, set_nth-none, length-set_nth, nth-set-same, nth-set-other, nth-change, nth-replicate, within_low, within-high}
 use Rattle.delivery.specs.Tests.{◌and◌, ◌or◌, neg}
 use Rattle.delivery.specs.Limits.{Limits}
 use Rattle.delivery.specs.Bus.{is_board}
@@ -35,15 +35,6 @@ use Rattle.delivery.proofs.SetLaws.{set-cong, in-set_of-within, in_without}
 pub record Whole (L : Limits) (o : Owed) : Type 0 where
   pub size : length o.speakers ≡ L.boards
   pub each : (s : ℕ) → length (copies_of L o s).receivers ≡ L.identifiers
-
--- what is owed of a speaker's statements, and where that stands
-pub receivers-copies : (L : Limits) (o : Owed) (s i : ℕ) → receivers L o s i ≡ receivers_at (copies_of L o s) i
-unfolding receivers
-receivers-copies L o s i = refl
-
-pub receivers-after : (c : Copies) (i : ℕ) → receivers_at c (i + 1) ≡ get_or c.receivers i 0
-unfolding receivers_at
-receivers-after c i = nth_after c.receivers i 0
 
 -- where a speaker's copies stand, and that a number that is no board's takes none
 module _ (L : Limits) (o : Owed) (s : ℕ) (w : length o.speakers ≡ L.boards) where

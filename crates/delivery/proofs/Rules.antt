@@ -6,7 +6,7 @@ use Rattle.delivery.proofs.OwedLaws.{delivery-set, nobody-at, signing-set, with-
 use Rattle.delivery.proofs.PassLaws.{allows-every, allows-low, allows-nothing, allows-only, alone, backs-test, bearing-found, every-nobody, every_first, joined, nothing_before, pass-turn}
 use Rattle.delivery.proofs.PlaceLaws.{index-high, index-nobody, index-outside, index-there}
 use Rattle.delivery.proofs.SetLaws.{count_set, in-index, in-unnumbered, minus-without, ones-every, ones-masked, or-union, set-none, set-take, shifted-alone, union-alone, with-unnumbered, xor-minus}
-use Rattle.signer.proofs.FromOneLaws.{nth-index, nth-none, within-high, within_low}
+use Rattle.signer.proofs.FromOneLaws.{get_none, get_some, within-high, within_low}
 
 pub ruleset rules_round_round_identifier = (within-high, within_low)
 
@@ -54,4 +54,4 @@ pub ruleset rules_owed_owed_set_receivers = (with-nobody, with-at, within-high, 
 
 pub ruleset rules_owed_owed_with_lacking = (signing-set)
 
-pub ruleset rules_owed_owed_receivers = (nobody-at, nth-none, nth-index)
+pub ruleset rules_owed_owed_receivers = (nobody-at, get_none, get_some)

@@ -71,7 +71,7 @@ impl Owed {
     pub fn receivers(&self, speaker: u8, id: Identifier) -> BoardSet
         ensures { result ≡ receivers limits self.now speaker id.0 }
     {
-        match self.speakers.get((speaker as usize).wrapping_sub(1)) {
+        match from_one::get(&self.speakers, speaker) {
             Some(copies) => copies.receivers(id),
             None => BoardSet::empty(),
         }
@@ -82,13 +82,15 @@ impl Owed {
     fn set_receivers(&mut self, speaker: u8, id: Identifier, set: BoardSet)
         ensures { self.new ≡ with_receivers limits self.old speaker id.0 set }
     {
+        // no `get_mut` in place of test and index: after it the check knows nothing of the other elements
         if Delivered::is_board(speaker) {
             self.speakers[speaker as usize - 1].set_receivers(id, set);
         }
     }
 
     // The boards to which a copy of it is owed, and the sound ones other than the speaker that do not have it:
-    // `sound` are the sound boards, `have` those that have the statement.
+    // `sound` are the sound boards, `have` those that have the statement. The two stay apart, here and below: a pair of
+    // two sets of one type would hide which is which, so no plainer.
     #[tactic(auto, using(crate::proofs::Rules::rules_owed_owed_with_lacking))]
     fn with_lacking(&self, speaker: u8, id: Identifier, sound: BoardSet, have: BoardSet) -> BoardSet
         ensures { result ≡ set_of bits (λ (k : ℕ). in_set (receivers limits self.now speaker id.0) k or lacks sound have speaker k) }
