@@ -13,7 +13,7 @@ use Rattle.std.specs.Prelude.{if◌then◌else◌}
 use Rattle.signer.specs.Log.{entry_of}
 use Rattle.signer.proofs.ConditionalLaws.{if-elim}
 use Rattle.delivery.specs.Tests.{◌and◌, ◌or◌, neg}
-use Rattle.delivery.specs.Counting.{count_in}
+use Rattle.delivery.specs.Counting.{count_in, plus}
 use Rattle.delivery.specs.Limits.{Limits}
 use Rattle.delivery.specs.Bus.{is_board, quorum, overlap}
 use Rattle.delivery.specs.Rounds.{identifier_of}
@@ -244,6 +244,18 @@ module _ (L : Limits) (n : ℕ) (h : Store) (before : Allowance) (r : ℕ) where
       y.0
       (record { said = y.1; value = lets-value before y.0 y.2; permitted = y.2 })))
 
+-- no ballot backs entry 0
+unbacked : (L : Limits) (h : Store) (r n : ℕ) → count_in n (backs L h r 0) ≡ 0
+unfolding count_in plus backs says
+unbacked L h r zero = refl
+unbacked L h r (suc n) = unbacked L h r n
+
+-- one test asked twice leaves two outcomes
+asked_twice : {A : Type 0} (t t' : Bool) (x y z : A) → t ≡ t' → (if t then x else (if t' then y else z)) ≡ (if t then x else z)
+asked_twice true t' x y z e = refl
+asked_twice false true x y z e = absurd (true≢false (sym e))
+asked_twice false false x y z e = refl
+
 -- a round as the program goes through it: the opening's entry x, b blank ballots and c for the opening's value
 -- leave the allowance a
 module _ (L : Limits) (n : ℕ) (h : Store) (before : Allowance) (r x b c : ℕ) (a : Allowance) where
@@ -323,3 +335,36 @@ module _ (L : Limits) (n : ℕ) (h : Store) where
       record { opening = opening; blanks = blanks; backers = backers; left = left } in
       fun_ext
       (pass-next a a' r low (λ w. ap (λ (may : ℕ → Bool). may w) f) (counted_next L n h a r x b c a' k (omega (arith, some))))
+
+  -- so where the opening that was sent is allowed, and where it is not and so has no backing
+  pub pass-opened : (a a' : Allowance) (r b c : ℕ) → lets a ≡ allowed L n h r → (n ≡ 0 → ⊥) → 1 ≤ r
+      → says (opening_entry L n h r) (lets a) ≡ true
+      → b ≡ count_in n (backs L h r (entry_of 0))
+      → c ≡ count_in n (backs L h r (opening_entry L n h r))
+      → a' ≡ (if leb (quorum n) (b + min c (overlap n - 1)) then a else (if leb (quorum n) (b + c) then Only (opening_entry L n h r) else Nothing))
+      → lets a' ≡ allowed L n h (r + 1)
+  pass-opened a a' r b c f some low said blanks backers left =
+      pass-turn a a' r (opening_entry L n h r) b c f some low (rw said refl) blanks backers left
+
+  pub pass-unopened : (a a' : Allowance) (r x b : ℕ) → lets a ≡ allowed L n h r → (n ≡ 0 → ⊥) → 1 ≤ r
+      → says (opening_entry L n h r) (lets a) ≡ false
+      → b ≡ count_in n (backs L h r (entry_of 0))
+      → a' ≡ (if leb (quorum n) (b + min 0 (overlap n - 1)) then a else (if leb (quorum n) (b + 0) then Only x else Nothing))
+      → lets a' ≡ allowed L n h (r + 1)
+  pass-unopened a a' r x b f some low unsaid blanks left =
+      let e : leb (quorum n) (b + min 0 (overlap n - 1)) ≡ leb (quorum n) (b + 0) =
+      ap (λ (m : ℕ). leb (quorum n) (b + m)) (omega arith) in
+      pass-turn
+      a
+      a'
+      r
+      0
+      b
+      0
+      f
+      some
+      low
+      (rw unsaid refl)
+      blanks
+      (sym (unbacked L h r n))
+      (left ∙ asked_twice _ _ a (Only x) Nothing e ∙ sym (asked_twice _ _ a (Only 0) Nothing e))

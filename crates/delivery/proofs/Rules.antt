@@ -3,7 +3,7 @@ use Rattle.delivery.proofs.AllRoundsLaws.{allowed-blank, ballot-sent, ballot-uno
 use Rattle.delivery.proofs.DeliveredLaws.{deliver-at, deliver-none, deliver-taken, heard-at, heard-none}
 use Rattle.delivery.proofs.OneRoundLaws.{backs-nothing, backs-value, reads-bears, says-low}
 use Rattle.delivery.proofs.OwedLaws.{delivery-set, nobody-at, signing-set, with-at, with-nobody}
-use Rattle.delivery.proofs.PassLaws.{allows-every, allows-low, allows-nothing, allows-only, alone, backs-test, bearing-found, every-nobody, every_first, joined, nothing_before, pass-turn}
+use Rattle.delivery.proofs.PassLaws.{allows-every, allows-low, allows-nothing, allows-only, alone, backs-test, bearing-found, every-nobody, every_first, joined, nothing_before, pass-opened, pass-unopened}
 use Rattle.delivery.proofs.PlaceLaws.{index-high, index-nobody, index-outside, index-there}
 use Rattle.delivery.proofs.SetLaws.{count_set, in-index, in-unnumbered, minus-without, ones-every, ones-masked, or-union, set-none, set-take, shifted-alone, union-alone, with-unnumbered, xor-minus}
 use Rattle.signer.proofs.FromOneLaws.{get_none, get_some, within-high, within_low}
@@ -38,7 +38,7 @@ pub ruleset rules_poll_poll_accepts_opening = (opening-sent, opening-unsent)
 
 pub ruleset rules_poll_poll_allows = (says-low, allowed-blank)
 
-pub ruleset rules_poll_poll_allowance = (nothing_before, every-nobody, every_first, pass-turn)
+pub ruleset rules_poll_poll_allowance = (nothing_before, every-nobody, every_first, pass-opened, pass-unopened)
 
 pub ruleset rules_poll_poll_ballots = (joined, alone)
 

@@ -33,20 +33,13 @@ impl Allowance {
         }
     }
 
-    // The entry that the coordinator sent as its opening where its value is allowed, else 0.
-    pub(crate) fn opened(self, sent: u32) -> u32
-        ensures { result ≡ (if says sent (lets self) then sent else 0) }
-    {
-        if self.allows(sent) { sent } else { 0 }
-    }
-
     // What is allowed after a round of n boards with so many blank ballots and so many for the opening's value.
     pub(crate) fn settled(self, n: u8, opening: u32, blank: u8, backing: u8) -> Allowance
         ensures { result ≡ (if leb (quorum n) (blank + min backing (overlap n - 1)) then self else (if leb (quorum n) (blank + backing) then Only opening else Nothing)) }
     {
         let q = bus::quorum(n) as u16;
         let e = bus::overlap(n);
-        // of the ballots for the opening's value, those that can stand among q of which fewer than e bear it
+        // so many ballots for the opening's value can be among q that are chosen with fewer than e for it
         let spare = backing.min(e.saturating_sub(1));
         if q <= blank as u16 + spare as u16 {
             return self;
@@ -54,7 +47,7 @@ impl Allowance {
         if q > blank as u16 + backing as u16 {
             return Allowance::Nothing;
         }
-        // here more bear it than the spare ones, so e or more do
+        // there are q ballots, and among any q of them e or more are for it
         Allowance::Only(opening)
     }
 }

@@ -43,7 +43,9 @@ impl Delivered {
 }
 
 impl<'a> Poll<'a> {
-    // The boards of 1 to n whose ballot of the round has this entry; no ballot has entry 0.
+    // The boards of 1 to n whose ballot of the round has this entry; no ballot has entry 0. The bench collects sets by such
+    // loops too: a public call for all would take the test as a closure, and so ask something of its callers (a rule of
+    // the project forbids it).
     #[tactic(auto, using(crate::proofs::Rules::rules_poll_poll_bearing), unfolding(crate::specs::Sets::set_of))]
     fn bearing(&self, entry: u32) -> BoardSet
         ensures { result ≡ set_of self.now.n (backs limits (heard limits self.now.delivered) self.now.round entry) }
@@ -94,9 +96,14 @@ impl<'a> Poll<'a> {
         let mut allowance = Allowance::Every;
         for r in 1..self.round.0 {
             let earlier = self.delivered.poll(self.n, Round(r));
-            let opening = allowance.opened(earlier.opening());
+            let opening = earlier.opening();
             let blank = earlier.count_bearing(Log::entry_of(Log::BLANK));
-            let backing = earlier.count_bearing(opening);
+            // no ballot for an opening whose value is not allowed counts
+            let backing = if allowance.allows(opening) {
+                earlier.count_bearing(opening)
+            } else {
+                0
+            };
             allowance = allowance.settled(self.n, opening, blank, backing);
         }
         allowance

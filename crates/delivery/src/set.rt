@@ -5,7 +5,8 @@ ghost use Rattle.delivery.specs.Sets.{in_set, with_board, without_board, union, 
 use signer::from_one;
 use std::marker::Model;
 
-// A set of boards, as a mask: bit k - 1 stands for board k. In contracts it is the mask's number.
+// A set of boards, as a mask: bit k - 1 stands for board k. In contracts it is the mask's number. Of the mask, `bits`
+// gives all bits at once, as a number, and `BITS` says how many they are.
 #[derive(Clone, Copy, Debug, PartialEq, Eq)]
 pub struct BoardSet {
     mask: u16,
@@ -34,7 +35,8 @@ impl From<u16> for BoardSet {
 }
 
 impl BoardSet {
-    // How many numbers a set has a bit for.
+    // How many numbers a set has a bit for: `u16::BITS`, written out, since the code gives each limit its number once (a
+    // rule of the project).
     const BITS: u8 = 16;
 
     pub fn empty() -> BoardSet

@@ -34,7 +34,8 @@ impl Log {
         value as u32 + 1
     }
 
-    // The value that an entry stands for; the blank where it stands for none.
+    // The value that an entry stands for; the blank where it stands for none. No option: the field is open, and any
+    // number in it has a value as its answer (a rule of the project).
     #[tactic(auto, unfolding(crate::specs::Log::value_of))]
     pub fn value_of(entry: u32) -> u16
         ensures { result ≡ value_of entry }
