@@ -12,52 +12,12 @@ fn word(yes: bool) -> &'static str {
     if yes { "yes" } else { "no" }
 }
 
-// With a statement of a round that a board sent.
-fn heard(mut d: Delivered, speaker: u8, round: u8, phase: Phase, value: u16) -> Delivered {
-    d.deliver(speaker, Round(round).identifier(phase), value);
-    d
-}
-
-// With the opening of a round that a board sent.
-fn opening(d: Delivered, speaker: u8, round: u8, value: u16) -> Delivered {
-    heard(d, speaker, round, Phase::Opening, value)
-}
-
-// With the ballot of a round that a board sent.
-fn ballot(d: Delivered, speaker: u8, round: u8, value: u16) -> Delivered {
-    heard(d, speaker, round, Phase::Ballot, value)
-}
-
-fn ask_allowed(rt: &HostRuntime, d: &Delivered, n: u8, round: u8, value: u16) -> io::Result<()> {
-    let answer = word(d.poll(n, Round(round)).allowed(value));
-    print!(rt; "  in round {round} of {n} boards, {value} is allowed: {answer}\n")
-}
-
-fn ask_opening(rt: &HostRuntime, d: &Delivered, n: u8, round: u8, value: u16) -> io::Result<()> {
-    let answer = word(d.poll(n, Round(round)).accepts_opening(value));
-    print!(rt; "  the opening of round {round} with {value} is accepted: {answer}\n")
-}
-
-fn ask_ballot(
-    rt: &HostRuntime,
-    d: &Delivered,
-    n: u8,
-    round: u8,
-    speaker: u8,
-    value: u16,
-) -> io::Result<()> {
-    let answer = word(d.poll(n, Round(round)).accepts_ballot(speaker, value));
-    print!(rt;
-        "  the ballot of round {round} by board {speaker} with {value} is accepted: {answer}\n"
-    )
-}
-
 // How many boards a set holds, and which of the first four.
 fn write_set(rt: &HostRuntime, boards: BoardSet) -> io::Result<()> {
     let count = boards.count(Delivered::BOARDS);
     print!(rt; " {count}")?;
     if boards == BoardSet::empty() {
-        return print!(rt; "\n");
+        return println!(rt);
     }
     print!(rt; " (boards")?;
     for k in 1..=4u8 {
@@ -65,140 +25,184 @@ fn write_set(rt: &HostRuntime, boards: BoardSet) -> io::Result<()> {
             print!(rt; " {k}")?;
         }
     }
-    print!(rt; ")\n")
+    println!(rt; ")")
 }
 
-// Who has an accepted ballot of a round, and who has one with a value.
-fn write_ballots(rt: &HostRuntime, d: &Delivered, n: u8, round: u8, value: u16) -> io::Result<()> {
-    print!(rt; "  accepted ballots:")?;
-    write_set(rt, d.poll(n, Round(round)).ballots())?;
-    print!(rt; "  of these with {value}:")?;
-    write_set(rt, d.poll(n, Round(round)).ballots_for(value))
+// How many boards there are, what one of them has delivered, and where its answers are written.
+#[derive(Clone, Copy)]
+struct Case<'a> {
+    rt: &'a HostRuntime,
+    n: u8,
+    delivered: Delivered,
 }
 
-// What is allowed in round 2, at some values.
-fn letter(rt: &HostRuntime, d: &Delivered, n: u8, name: &str) -> io::Result<()> {
-    print!(rt; "{name}")?;
-    write_ballots(rt, d, n, 1, 9)?;
-    ask_allowed(rt, d, n, 2, 0)?;
-    ask_allowed(rt, d, n, 2, 1)?;
-    ask_allowed(rt, d, n, 2, 9)?;
-    ask_allowed(rt, d, n, 2, Log::VALUES)
+impl<'a> Case<'a> {
+    fn new(rt: &'a HostRuntime, n: u8) -> Case<'a> {
+        Case {
+            rt,
+            n,
+            delivered: Delivered::fresh(),
+        }
+    }
+
+    // Takes in a statement of a round that a board sent.
+    fn deliver(&mut self, speaker: u8, round: u8, phase: Phase, value: u16) {
+        let id = Round(round).identifier(phase);
+        self.delivered.deliver(speaker, id, value);
+    }
+
+    fn opening(&mut self, speaker: u8, round: u8, value: u16) {
+        self.deliver(speaker, round, Phase::Opening, value);
+    }
+
+    fn ballot(&mut self, speaker: u8, round: u8, value: u16) {
+        self.deliver(speaker, round, Phase::Ballot, value);
+    }
+
+    // Rounds of blank ballots by four of the boards, from the given one to the one before the last.
+    fn blank_rounds(&mut self, from: u8) {
+        for round in from..Round::LAST {
+            for speaker in 1..=4u8 {
+                self.ballot(speaker, round, Log::BLANK);
+            }
+        }
+    }
+
+    fn ask_allowed(&self, round: u8, value: u16) -> io::Result<()> {
+        let n = self.n;
+        let answer = word(self.delivered.poll(n, Round(round)).allowed(value));
+        println!(self.rt; "  in round {round} of {n} boards, {value} is allowed: {answer}")
+    }
+
+    fn ask_opening(&self, round: u8, value: u16) -> io::Result<()> {
+        let poll = self.delivered.poll(self.n, Round(round));
+        let answer = word(poll.accepts_opening(value));
+        println!(self.rt; "  the opening of round {round} with {value} is accepted: {answer}")
+    }
+
+    fn ask_ballot(&self, speaker: u8, round: u8, value: u16) -> io::Result<()> {
+        let poll = self.delivered.poll(self.n, Round(round));
+        let answer = word(poll.accepts_ballot(speaker, value));
+        println!(self.rt;
+            "  the ballot of round {round} by board {speaker} with {value} is accepted: {answer}"
+        )
+    }
+
+    // Who has an accepted ballot of a round, and who has one with a value.
+    fn write_ballots(&self, round: u8, value: u16) -> io::Result<()> {
+        let poll = self.delivered.poll(self.n, Round(round));
+        print!(self.rt; "  accepted ballots:")?;
+        write_set(self.rt, poll.ballots())?;
+        print!(self.rt; "  of these with {value}:")?;
+        write_set(self.rt, poll.ballots_for(value))
+    }
+
+    // The accepted ballots of round 1, and what is allowed in round 2, at some values.
+    fn letter(&self, name: &str) -> io::Result<()> {
+        println!(self.rt; "{name}")?;
+        self.write_ballots(1, 9)?;
+        self.ask_allowed(2, 0)?;
+        self.ask_allowed(2, 1)?;
+        self.ask_allowed(2, 9)?;
+        self.ask_allowed(2, Log::VALUES)
+    }
+}
+
+// A letter whose round 1 board 1 opened with 9, with ballots of boards 1, 2 and so on.
+fn voted(rt: &HostRuntime, name: &str, n: u8, ballots: &[u16]) -> io::Result<()> {
+    let mut case = Case::new(rt, n);
+    case.opening(1, 1, 9);
+    for (speaker, &value) in (1..=n).zip(ballots) {
+        case.ballot(speaker, 1, value);
+    }
+    case.letter(name)
 }
 
 fn letters(rt: &HostRuntime) -> io::Result<()> {
-    let nine = opening(Delivered::fresh(), 1, 1, 9);
-    letter(
-        rt,
-        &ballot(ballot(nine, 1, 1, 9), 2, 1, 0),
-        3,
-        "e: three boards, ballots 9 0\n",
-    )?;
-    letter(
-        rt,
-        &ballot(ballot(nine, 1, 1, 0), 2, 1, 0),
-        3,
-        "f: three boards, ballots 0 0\n",
-    )?;
-    let mixed = ballot(ballot(ballot(nine, 1, 1, 9), 2, 1, 0), 3, 1, 0);
-    letter(rt, &mixed, 3, "g: three boards, ballots 9 0 0\n")?;
-    letter(rt, &ballot(nine, 1, 1, 9), 3, "h: three boards, ballot 9\n")?;
-    letter(rt, &mixed, 4, "i: four boards, ballots 9 0 0\n")?;
-    letter(
-        rt,
-        &ballot(ballot(ballot(nine, 1, 1, 9), 2, 1, 9), 3, 1, 0),
-        4,
-        "j: four boards, ballots 9 9 0\n",
-    )?;
-    let unopened = ballot(Delivered::fresh(), 2, 1, 9);
-    letter(
-        rt,
-        &unopened,
-        4,
-        "k: four boards, ballot 9 of board 2, no opening\n",
-    )?;
-    ask_ballot(rt, &unopened, 4, 1, 2, 9)
+    voted(rt, "e: three boards, ballots 9 0", 3, &[9, 0])?;
+    voted(rt, "f: three boards, ballots 0 0", 3, &[0, 0])?;
+    voted(rt, "g: three boards, ballots 9 0 0", 3, &[9, 0, 0])?;
+    voted(rt, "h: three boards, ballot 9", 3, &[9])?;
+    voted(rt, "i: four boards, ballots 9 0 0", 4, &[9, 0, 0])?;
+    voted(rt, "j: four boards, ballots 9 9 0", 4, &[9, 9, 0])?;
+    let mut unopened = Case::new(rt, 4);
+    unopened.ballot(2, 1, 9);
+    unopened.letter("k: four boards, ballot 9 of board 2, no opening")?;
+    unopened.ask_ballot(2, 1, 9)
 }
 
 // Boards 1 and 3 have voted for set 41; board 2 opens round 2 with set 40.
 fn incident(rt: &HostRuntime) -> io::Result<()> {
-    print!(rt; "the incident: three boards, 41 in round 1, 40 opened in round 2\n")?;
-    let first = opening(Delivered::fresh(), 1, 1, 41);
-    let voted = ballot(ballot(first, 1, 1, 41), 3, 1, 41);
-    write_ballots(rt, &voted, 3, 1, 41)?;
-    let d = opening(voted, 2, 2, 40);
-    ask_opening(rt, &d, 3, 2, 40)?;
-    ask_opening(rt, &opening(voted, 2, 2, 41), 3, 2, 41)?;
-    ask_ballot(rt, &ballot(d, 3, 2, 40), 3, 2, 3, 40)?;
-    ask_ballot(rt, &ballot(d, 3, 2, 0), 3, 2, 3, 0)?;
-    print!(rt; "an opening of round 2 by board 1, which is not its coordinator\n")?;
-    ask_opening(rt, &opening(voted, 1, 2, 41), 3, 2, 41)?;
-    print!(rt; "a statement delivered again, with another value\n")?;
-    ask_opening(rt, &opening(first, 1, 1, 42), 3, 1, 41)?;
-    ask_opening(rt, &opening(first, 1, 1, 42), 3, 1, 42)
-}
-
-// Rounds of blank ballots by four of the boards, from the given one to the one before the last.
-fn blank_rounds(d: Delivered, from: u8) -> Delivered {
-    let mut next = d;
-    for r in from..Round::LAST {
-        for speaker in 1..=4u8 {
-            next = ballot(next, speaker, r, 0);
-        }
-    }
-    next
+    println!(rt; "the incident: three boards, 41 in round 1, 40 opened in round 2")?;
+    let mut voted = Case::new(rt, 3);
+    voted.opening(1, 1, 41);
+    voted.ballot(1, 1, 41);
+    voted.ballot(3, 1, 41);
+    voted.write_ballots(1, 41)?;
+    let mut wrong = voted;
+    wrong.opening(2, 2, 40);
+    wrong.ask_opening(2, 40)?;
+    let mut right = voted;
+    right.opening(2, 2, 41);
+    right.ask_opening(2, 41)?;
+    let mut followed = wrong;
+    followed.ballot(3, 2, 40);
+    followed.ask_ballot(3, 2, 40)?;
+    wrong.ballot(3, 2, 0);
+    wrong.ask_ballot(3, 2, 0)?;
+    println!(rt; "an opening of round 2 by board 1, which is not its coordinator")?;
+    voted.opening(1, 2, 41);
+    voted.ask_opening(2, 41)?;
+    println!(rt; "a statement delivered again, with another value")?;
+    voted.opening(1, 1, 42);
+    voted.ask_opening(1, 41)?;
+    voted.ask_opening(1, 42)
 }
 
 fn last_round(rt: &HostRuntime) -> io::Result<()> {
-    print!(rt; "the largest bus: 9 in round 1, then blank ballots, to the last round\n")?;
-    let first = opening(Delivered::fresh(), 1, 1, 9);
-    let voted = ballot(ballot(first, 1, 1, 9), 2, 1, 9);
-    let d = blank_rounds(ballot(ballot(voted, 3, 1, 0), 4, 1, 0), 2);
-    let n = Delivered::BOARDS;
-    ask_allowed(rt, &d, n, Round::LAST, 9)?;
-    ask_allowed(rt, &d, n, Round::LAST, 8)?;
-    let coordinator = Round(Round::LAST).coordinator(n);
-    ask_opening(
-        rt,
-        &opening(d, coordinator, Round::LAST, 9),
-        n,
-        Round::LAST,
-        9,
-    )?;
-    ask_opening(
-        rt,
-        &opening(d, coordinator, Round::LAST, 8),
-        n,
-        Round::LAST,
-        8,
-    )?;
-    print!(rt; "the same with blank ballots from round 1 on\n")?;
-    let blank = blank_rounds(Delivered::fresh(), 1);
-    ask_allowed(rt, &blank, n, Round::LAST, 8)
+    println!(rt; "the largest bus: 9 in round 1, then blank ballots, to the last round")?;
+    let mut case = Case::new(rt, Delivered::BOARDS);
+    case.opening(1, 1, 9);
+    case.ballot(1, 1, 9);
+    case.ballot(2, 1, 9);
+    case.ballot(3, 1, 0);
+    case.ballot(4, 1, 0);
+    case.blank_rounds(2);
+    case.ask_allowed(Round::LAST, 9)?;
+    case.ask_allowed(Round::LAST, 8)?;
+    let coordinator = Round(Round::LAST).coordinator(case.n);
+    let mut other = case;
+    case.opening(coordinator, Round::LAST, 9);
+    case.ask_opening(Round::LAST, 9)?;
+    other.opening(coordinator, Round::LAST, 8);
+    other.ask_opening(Round::LAST, 8)?;
+    println!(rt; "the same with blank ballots from round 1 on")?;
+    let mut blank = Case::new(rt, Delivered::BOARDS);
+    blank.blank_rounds(1);
+    blank.ask_allowed(Round::LAST, 8)
 }
 
 // Numbers of boards, rounds and speakers that there are not.
 fn outside(rt: &HostRuntime) -> io::Result<()> {
-    print!(rt; "numbers that are none\n")?;
-    let d = opening(Delivered::fresh(), 1, 1, 9);
-    ask_allowed(rt, &d, 0, 2, 9)?;
-    ask_allowed(rt, &d, 200, 2, 9)?;
-    ask_allowed(rt, &d, 3, 0, 9)?;
-    ask_allowed(rt, &d, 3, 255, 9)?;
-    ask_opening(rt, &opening(d, 1, 255, 9), 3, 255, 9)?;
-    ask_ballot(
-        rt,
-        &ballot(d, Delivered::BOARDS + 1, 1, 9),
-        200,
-        1,
-        Delivered::BOARDS + 1,
-        9,
-    )
+    println!(rt; "numbers that are none")?;
+    let mut case = Case::new(rt, 0);
+    case.opening(1, 1, 9);
+    case.ask_allowed(2, 9)?;
+    case.n = 200;
+    case.ask_allowed(2, 9)?;
+    case.n = 3;
+    case.ask_allowed(0, 9)?;
+    case.ask_allowed(255, 9)?;
+    case.opening(1, 255, 9);
+    case.ask_opening(255, 9)?;
+    case.n = 200;
+    case.ballot(Delivered::BOARDS + 1, 1, 9);
+    case.ask_ballot(Delivered::BOARDS + 1, 1, 9)
 }
 
 // Boards 1 to 4, of which 4 is faulty: 1 signs, 2 delivers, 3 delivers.
 fn owed(rt: &HostRuntime) -> io::Result<()> {
-    print!(rt; "owed copies of a statement of board 1: boards 1, 2 and 3 are sound\n")?;
+    println!(rt; "owed copies of a statement of board 1: boards 1, 2 and 3 are sound")?;
     let id = Round(1).identifier(Phase::Opening);
     let sound = BoardSet::from(0b111u16);
     let mut have = BoardSet::empty();
@@ -215,7 +219,7 @@ fn owed(rt: &HostRuntime) -> io::Result<()> {
     owed.record_delivery(3, 1, id, sound, have);
     print!(rt; "  board 3 delivers, owed:")?;
     write_set(rt, owed.receivers(1, id))?;
-    print!(rt; "and of faulty board 4, which reached board 2 alone\n")?;
+    println!(rt; "and of faulty board 4, which reached board 2 alone")?;
     let mut two = BoardSet::empty();
     two.insert(2);
     let mut echoed = Owed::none();
