@@ -12,16 +12,16 @@ fn ask(rt: &HostRuntime, signer: &mut Signer, id: u8, value: u16) -> io::Result<
     } else {
         "refused"
     };
-    print!(rt; "{id} {value} {answer}\n")
+    println!(rt; "{id} {value} {answer}")
 }
 
 fn show(rt: &HostRuntime, signer: &Signer, id: u8) -> io::Result<()> {
     let entry = signer.entry(Identifier(id));
     if entry == 0 {
-        return print!(rt; "{id} nothing\n");
+        return println!(rt; "{id} nothing");
     }
     let value = Log::value_of(entry);
-    print!(rt; "{id} {value}\n")
+    println!(rt; "{id} {value}")
 }
 
 fn main(rt: HostRuntime) -> io::Result<()> {
