@@ -43,9 +43,9 @@ impl Delivered {
 }
 
 impl<'a> Poll<'a> {
-    // The boards of 1 to n whose ballot of the round has this entry; no ballot has entry 0. The bench collects sets by such
-    // loops too: a public call for all would take the test as a closure, and so ask something of its callers (a rule of
-    // the project forbids it).
+    // The boards of 1 to n whose ballot of the round has this entry; no ballot has entry 0. The bench collects sets by
+    // such loops too: one public call for all would take the test as a closure, and so ask something of its callers,
+    // which a rule of the project forbids.
     #[tactic(auto, using(crate::proofs::Rules::rules_poll_poll_bearing), unfolding(crate::specs::Sets::set_of))]
     fn bearing(&self, entry: u32) -> BoardSet
         ensures { result ≡ set_of self.now.n (backs limits (heard limits self.now.delivered) self.now.round entry) }
