@@ -70,12 +70,12 @@ impl Board {
         matches!(self.status, Status::Spent | Status::Decided(_))
     }
 
-    // Whether it decided this value in this round.
+    // Whether this is what it decided.
     #[tactic(auto, using(crate::proofs::Rules::rules_board_board_has_decided), unfolding(crate::specs::Boards::has_decided))]
-    pub fn has_decided(&self, round: Round, value: u16) -> bool
-        ensures { result ≡ has_decided self.now.status round.0 value }
+    pub fn has_decided(&self, decision: Decision) -> bool
+        ensures { result ≡ has_decided self.now.status decision.round.0 decision.value }
     {
-        self.status == Status::Decided(Decision { round, value })
+        self.status == Status::Decided(decision)
     }
 
     // Starts the vote with this value; nothing changes if it has started, or if the value is the blank.
@@ -114,7 +114,8 @@ impl Board {
         self.position.suspected.remove(k);
     }
 
-    // How many ballots of a round it accepts that bear a value.
+    // How many ballots of a round it accepts that bear a value. The two stay apart: this asks about the round's poll, and
+    // a `Decision` is what a board decided.
     #[tactic(auto, using(delivery::proofs::SetLaws::count_set), unfolding(crate::specs::Ballots::tally))]
     pub fn tally(&self, n: u8, round: Round, value: u16) -> u8
         ensures { result ≡ tally limits n (heard limits self.now.delivered) round.0 value }
@@ -122,18 +123,18 @@ impl Board {
         self.delivered.poll(n, round).ballots_for(value).count(n)
     }
 
-    // An announcement that another board decided a value in a round. The board decides the same if its own ballots bear
-    // it out; nothing changes if not, or if it has not started or is decided already.
+    // An announcement of another board's decision. The board decides the same if its own ballots bear it out; nothing
+    // changes if not, or if it has not started or is decided already.
     #[tactic(auto, using(crate::proofs::Rules::rules_board_board_announce), unfolding(crate::specs::Announcements::convinced, crate::specs::Announcements::announce, crate::specs::Boards::with_status))]
-    pub fn announce(&mut self, n: u8, round: Round, value: u16)
-        ensures { self.new ≡ announce limits n self.old round.0 value }
+    pub fn announce(&mut self, n: u8, decision: Decision)
+        ensures { self.new ≡ announce limits n self.old decision.round.0 decision.value }
     {
         if self.is_started()
             && !self.is_decided()
-            && value != Log::BLANK
-            && self.tally(n, round, value) >= bus::quorum(n)
+            && decision.value != Log::BLANK
+            && self.tally(n, decision.round, decision.value) >= bus::quorum(n)
         {
-            self.status = Status::Decided(Decision { round, value });
+            self.status = Status::Decided(decision);
         }
     }
 }

@@ -5,7 +5,7 @@
 use delivery::{BoardSet, Delivered, Phase, Round};
 use signer::Identifier;
 use std::{fmt, io};
-use vote::{Board, Position, Stage, Statement, Status, number_of};
+use vote::{Board, Decision, Position, Stage, Statement, Status, number_of};
 
 // A step of a run; a statement has its speaker, round and value.
 #[derive(Clone, Copy)]
@@ -280,7 +280,10 @@ impl Seat {
             Step::Ballot(k, round, value) => self.hear(k, round, Phase::Ballot, value),
             Step::Suspect(k) => self.board.suspect(k),
             Step::Trust(k) => self.board.trust(k),
-            Step::Announce(round, value) => self.board.announce(self.n, Round(round), value),
+            Step::Announce(round, value) => {
+                let round = Round(round);
+                self.board.announce(self.n, Decision { round, value });
+            }
             Step::Count(round, value) => {
                 print!(rt; ": {}", self.board.tally(self.n, Round(round), value))?;
             }
