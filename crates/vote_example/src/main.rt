@@ -7,13 +7,12 @@ use signer::Identifier;
 use std::{fmt, io};
 use vote::{Board, Decision, Position, Stage, Statement, Status, number_of};
 
-// A step of a run; a statement has its speaker, round and value.
+// A step of a run; a statement has its speaker, phase, round and value.
 #[derive(Clone, Copy)]
 enum Step {
     Propose(u16),
     Turn,
-    Opening(u8, u8, u16),
-    Ballot(u8, u8, u16),
+    Deliver(u8, Phase, u8, u16),
     Suspect(u8),
     Trust(u8),
     Announce(u8, u16),
@@ -26,16 +25,16 @@ const OWN_TURN: &[Step] = &[
     Step::Propose(700),
     Step::Turn,
     Step::Turn,
-    Step::Opening(1, 1, 700),
+    Step::Deliver(1, Phase::Opening, 1, 700),
     Step::Turn,
     Step::Turn,
-    Step::Ballot(1, 1, 700),
+    Step::Deliver(1, Phase::Ballot, 1, 700),
     Step::Turn,
     Step::Suspect(3),
     Step::Turn,
     Step::Turn,
     Step::Count(1, 700),
-    Step::Ballot(3, 1, 700),
+    Step::Deliver(3, Phase::Ballot, 1, 700),
     Step::Count(1, 700),
 ];
 
@@ -44,18 +43,18 @@ const INCIDENT: &[Step] = &[
     Step::Turn,
     Step::Suspect(1),
     Step::Turn,
-    Step::Ballot(1, 1, 41),
+    Step::Deliver(1, Phase::Ballot, 1, 41),
     Step::Suspect(2),
     Step::Turn,
-    Step::Opening(1, 1, 41),
+    Step::Deliver(1, Phase::Opening, 1, 41),
     Step::Turn,
     Step::Turn,
     Step::Trust(2),
     Step::Turn,
-    Step::Opening(2, 2, 40),
+    Step::Deliver(2, Phase::Opening, 2, 40),
     Step::Turn,
     Step::Announce(1, 41),
-    Step::Ballot(2, 1, 41),
+    Step::Deliver(2, Phase::Ballot, 1, 41),
     Step::Announce(1, 41),
 ];
 
@@ -66,7 +65,7 @@ const LAST_ROUND: &[Step] = &[
     Step::BlankRounds,
     Step::Turn,
     Step::Announce(3, 500),
-    Step::Ballot(2, 3, 500),
+    Step::Deliver(2, Phase::Ballot, 3, 500),
     Step::Announce(3, 500),
     Step::Turn,
 ];
@@ -75,7 +74,7 @@ const BLANK_OPENING: &[Step] = &[
     Step::Propose(700),
     Step::Turn,
     Step::Turn,
-    Step::Opening(1, 1, 0),
+    Step::Deliver(1, Phase::Opening, 1, 0),
     Step::Turn,
 ];
 
@@ -83,9 +82,9 @@ const SUSPECTED: &[Step] = &[
     Step::Propose(700),
     Step::Turn,
     Step::Suspect(1),
-    Step::Opening(1, 1, 41),
+    Step::Deliver(1, Phase::Opening, 1, 41),
     Step::Turn,
-    Step::Ballot(3, 1, 41),
+    Step::Deliver(3, Phase::Ballot, 1, 41),
     Step::Turn,
 ];
 
@@ -115,7 +114,7 @@ const NO_ROUND: &[Step] = &[
     Step::Suspect(1),
     Step::Turn,
     Step::Turn,
-    Step::Ballot(2, 250, 0),
+    Step::Deliver(2, Phase::Ballot, 250, 0),
     Step::Count(250, 0),
     Step::Announce(250, 9),
 ];
@@ -127,14 +126,13 @@ impl fmt::Display for Step {
         match *self {
             Step::Propose(value) => write!(f, "propose {value}"),
             Step::Turn => f.write_str("turn:"),
-            Step::Opening(k, round, value) => write!(
-                f,
-                "delivery: board {k} opens round {round} with {value}"
-            ),
-            Step::Ballot(k, round, value) => write!(
-                f,
-                "delivery: board {k} votes in round {round} with {value}"
-            ),
+            Step::Deliver(k, phase, round, value) => {
+                let says = match phase {
+                    Phase::Opening => "opens",
+                    Phase::Ballot => "votes in",
+                };
+                write!(f, "delivery: board {k} {says} round {round} with {value}")
+            }
             Step::Suspect(k) => write!(f, "suspect board {k}"),
             Step::Trust(k) => write!(f, "trust board {k}"),
             Step::Announce(round, value) => write!(f, "announcement of round {round} with {value}"),
@@ -149,13 +147,6 @@ impl fmt::Display for Step {
     }
 }
 
-// How a board stands, at the end of a line.
-#[derive(Clone, Copy)]
-struct Standing {
-    position: Position,
-    status: Status,
-}
-
 // The letter of a stage in document 01.
 fn letter(stage: Stage) -> char {
     match stage {
@@ -165,29 +156,11 @@ fn letter(stage: Stage) -> char {
     }
 }
 
-impl fmt::Display for Standing {
-    fn fmt<W: fmt::Write>(&self, f: &mut fmt::Formatter<W>) -> fmt::Result {
-        let Position {
-            round,
-            estimate,
-            stage,
-            ..
-        } = self.position;
-        let letter = letter(stage);
-        match self.status {
-            Status::Idle => f.write_str("N 0 0"),
-            Status::Voting => write!(f, "W {} {estimate} {letter}", round.0),
-            Status::Spent => write!(f, "X {} {estimate} {letter}", round.0),
-            Status::Decided(d) => write!(f, "D {} {}", d.round.0, d.value),
-        }
-    }
-}
-
 // What a statement's identifier stands for in a round.
 fn phase(id: Identifier, round: Round) -> &'static str {
     if !round.in_range() {
         "none"
-    } else if id.0 == round.identifier(Phase::Opening).0 {
+    } else if id == round.identifier(Phase::Opening) {
         "opening"
     } else {
         "ballot"
@@ -200,6 +173,25 @@ struct Seat {
     n: u8,
     me: u8,
     board: Board,
+}
+
+// How its board stands.
+impl fmt::Display for Seat {
+    fn fmt<W: fmt::Write>(&self, f: &mut fmt::Formatter<W>) -> fmt::Result {
+        let Position {
+            round,
+            estimate,
+            stage,
+            ..
+        } = self.board.position;
+        let letter = letter(stage);
+        match self.board.status {
+            Status::Idle => f.write_str("N 0 0"),
+            Status::Voting => write!(f, "W {} {estimate} {letter}", round.0),
+            Status::Spent => write!(f, "X {} {estimate} {letter}", round.0),
+            Status::Decided(d) => write!(f, "D {} {}", d.round.0, d.value),
+        }
+    }
 }
 
 impl Seat {
@@ -227,14 +219,6 @@ impl Seat {
         Seat { n, me, board }
     }
 
-    fn write_standing(&self, rt: &HostRuntime) -> io::Result<()> {
-        let standing = Standing {
-            position: self.board.position,
-            status: self.board.status,
-        };
-        print!(rt; "; {standing}\n")
-    }
-
     // A turn; the given text stands for what the board signs, where that is nothing.
     fn turn(&mut self, rt: &HostRuntime, nothing: &str) -> io::Result<()> {
         let round = self.board.position.round;
@@ -252,7 +236,7 @@ impl Seat {
         }
     }
 
-    fn hear(&mut self, speaker: u8, round: u8, phase: Phase, value: u16) {
+    fn hear(&mut self, speaker: u8, phase: Phase, round: u8, value: u16) {
         let id = Round(round).identifier(phase);
         self.board.deliver(Statement { speaker, id, value });
     }
@@ -260,9 +244,9 @@ impl Seat {
     // In each round board 1 votes blank: three turns, on a line below that of the round before.
     fn blank_rounds(&mut self, rt: &HostRuntime) -> io::Result<()> {
         for r in 1..=Round::LAST {
-            self.write_standing(rt)?;
+            println!(rt; "; {self}")?;
             print!(rt; "   round {r}:")?;
-            self.hear(1, r, Phase::Ballot, 0);
+            self.hear(1, Phase::Ballot, r, 0);
             self.turn(rt, "")?;
             print!(rt; " /")?;
             self.turn(rt, "")?;
@@ -276,8 +260,7 @@ impl Seat {
         match step {
             Step::Propose(value) => self.board.propose(value),
             Step::Turn => self.turn(rt, ", signs nothing")?,
-            Step::Opening(k, round, value) => self.hear(k, round, Phase::Opening, value),
-            Step::Ballot(k, round, value) => self.hear(k, round, Phase::Ballot, value),
+            Step::Deliver(k, phase, round, value) => self.hear(k, phase, round, value),
             Step::Suspect(k) => self.board.suspect(k),
             Step::Trust(k) => self.board.trust(k),
             Step::Announce(round, value) => {
@@ -295,19 +278,18 @@ impl Seat {
 
 // One run: its name, and a line for each step.
 fn play(rt: &HostRuntime, name: &str, mut seat: Seat, steps: &[Step]) -> io::Result<()> {
-    print!(rt; "{name}")?;
-    seat.write_standing(rt)?;
+    println!(rt; "{name}; {seat}")?;
     for (i, step) in steps.iter().enumerate() {
         print!(rt; " {} {step}", i + 1)?;
         seat.take(rt, *step)?;
-        seat.write_standing(rt)?;
+        println!(rt; "; {seat}")?;
     }
     Ok(())
 }
 
 fn main(rt: HostRuntime) -> io::Result<()> {
-    print!(rt;
-        "N not started; W voting, X spent: round, estimate, stage; D decided: round, value\n"
+    println!(rt;
+        "N not started; W voting, X spent: round, estimate, stage; D decided: round, value"
     )?;
     play(
         &rt,
