@@ -88,6 +88,10 @@ module _ (L : Limits) (n : ℕ) (h : Store) (r : ℕ) where
       (λ e z. e)
       (λ e z. absurd (z refl))
 
+  -- no opening with the blank is accepted
+  pub opened_some : (w : ℕ) → accepts_opening L n h r w ≡ true → w ≡ 0 → ⊥
+  opened_some w o = (opening-reads L n h r w o).value
+
   pub opened-within : opened_value L n h r ≤ values
   unfolding opened_value
   opened-within =

@@ -19,6 +19,10 @@ module _ (L : Limits) (n : ℕ) (h : Store) (r : ℕ) where
   unfoldable pub opened_value : ℕ
   opened_value = if accepts_opening L n h r (value_of (opening_entry L n h r)) then value_of (opening_entry L n h r) else 0
 
+  -- the same as an option: none where it is the blank
+  unfoldable pub some_opened : Option ℕ
+  some_opened = if eqb opened_value 0 then None else Some opened_value
+
   -- how many accepted ballots bear w
   unfoldable pub tally : ℕ → ℕ
   tally w = count_in n (λ (s : ℕ). accepts_ballot L n h r s w)

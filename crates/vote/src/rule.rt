@@ -1,7 +1,7 @@
 ghost use Rattle.std.specs.Prelude.{◌≡◌};
 ghost use Rattle.delivery.specs.Limits.{limits};
 ghost use Rattle.delivery.specs.Delivered.{heard};
-ghost use Rattle.vote.specs.Ballots.{opened_value, some_with};
+ghost use Rattle.vote.specs.Ballots.{some_opened, some_with};
 ghost use Rattle.vote.specs.Rule.{open_move, may_vote, vote_move, may_count, next_estimate, onward, count_move, rule};
 
 use crate::position::{Position, Stage};
@@ -37,28 +37,22 @@ impl<'a> Outlook<'a> {
         self.delivered.poll(self.n, self.position.round)
     }
 
-    // The value of the round's opening where it is accepted; the blank otherwise.
-    #[tactic(auto, unfolding(crate::specs::Ballots::opened_value))]
-    fn opened_value(&self) -> u16
-        ensures { result ≡ opened_value limits self.now.n (heard limits self.now.delivered.now) self.now.position.round.0 }
+    // The value of the round's opening, if it is accepted.
+    #[tactic(auto, using(crate::proofs::BallotLaws::opened_some), unfolding(crate::specs::Ballots::opened_value, crate::specs::Ballots::some_opened))]
+    fn opened_value(&self) -> Option<u16>
+        ensures { result ≡ some_opened limits self.now.n (heard limits self.now.delivered.now) self.now.position.round.0 }
     {
         let value = Log::value_of(self.poll().opening());
-        if self.poll().accepts_opening(value) {
-            return value;
-        }
-        Log::BLANK
+        self.poll().accepts_opening(value).then_some(value)
     }
 
     // The value that so many accepted ballots of the round bear, or more, if there is one. Only the opening's value can be
     // it, and where that is accepted so is each ballot that bears it.
-    #[tactic(auto, using(crate::proofs::Rules::rules_rule_outlook_value_with), unfolding(crate::specs::Ballots::some_with))]
+    #[tactic(auto, using(crate::proofs::Rules::rules_rule_outlook_value_with), unfolding(crate::specs::Ballots::some_with, crate::specs::Ballots::some_opened))]
     fn value_with(&self, least: u8) -> Option<u16>
         ensures { result ≡ some_with limits self.now.n (heard limits self.now.delivered.now) self.now.position.round.0 least }
     {
-        let value = self.opened_value();
-        if value == Log::BLANK {
-            return None;
-        }
+        let value = self.opened_value()?;
         let backing = self.poll().count_bearing(Log::entry_of(value));
         if backing == 0 || backing < least {
             return None;
@@ -87,14 +81,14 @@ impl<'a> Outlook<'a> {
     }
 
     // Stage B.
-    #[tactic(auto, unfolding(crate::specs::Rule::vote_move))]
+    #[tactic(auto, unfolding(crate::specs::Rule::vote_move, crate::specs::Ballots::some_opened))]
     fn vote_move(&self) -> Move
         ensures { result ≡ vote_move limits self.now.n self.now.position (heard limits self.now.delivered.now) }
     {
         if !self.may_vote() {
             return Move::Waits;
         }
-        Move::Ballots(self.opened_value())
+        Move::Ballots(self.opened_value().unwrap_or(Log::BLANK))
     }
 
     // Whether the board may count: a quorum has ballots, and every board without one is suspected.
