@@ -2,11 +2,12 @@ ghost use Rattle.std.specs.Prelude.{◌≡◌};
 ghost use Rattle.delivery.specs.Limits.{limits};
 ghost use Rattle.delivery.specs.Delivered.{heard};
 ghost use Rattle.vote.specs.Ballots.{some_opened, some_with};
-ghost use Rattle.vote.specs.Rule.{open_move, may_vote, vote_move, may_count, next_estimate, onward, count_move, rule};
+ghost use Rattle.vote.specs.Rule.{open_move, may_vote, vote_move, may_count, next_estimate, onward, count_move, rule, by_round, by_position};
 
 use crate::position::{Position, Stage};
 use delivery::{Delivered, Poll, Round, bus};
 use signer::Log;
+use std::marker::Model;
 
 // What a board does in a turn: it waits; passes, not being coordinator; opens with its estimate; gives a ballot with a
 // value; decides a value; goes on with an estimate; or is spent with one.
@@ -22,17 +23,25 @@ pub enum Move {
 }
 
 // All that a board's move goes by: how many boards there are, where it stands, and what it has delivered.
-#[derive(Clone, Copy)]
+#[derive(Drop)]
 struct Outlook<'a> {
     n: u8,
     position: Position,
     delivered: &'a Delivered,
 }
 
+impl<'a> Model for Outlook<'a> {
+    ghost use Rattle.vote.specs.Rule.{Outset};
+
+    ghost Value = { Outset };
+
+    ghost view = { λ o. record { n = o.n; position = o.position; delivered = o.delivered.now } };
+}
+
 impl<'a> Outlook<'a> {
     // The board's round, as it has heard it.
     fn poll(&self) -> Poll<'_>
-        ensures { result ≡ record { delivered = self.now.delivered.now; n = self.now.n; round = self.now.position.round.0 } }
+        ensures { result ≡ record { delivered = self.now.delivered; n = self.now.n; round = self.now.position.round.0 } }
     {
         self.delivered.poll(self.n, self.position.round)
     }
@@ -40,7 +49,7 @@ impl<'a> Outlook<'a> {
     // The value of the round's opening, if it is accepted.
     #[tactic(auto, using(crate::proofs::BallotLaws::opened_some), unfolding(crate::specs::Ballots::opened_value, crate::specs::Ballots::some_opened))]
     fn opened_value(&self) -> Option<u16>
-        ensures { result ≡ some_opened limits self.now.n (heard limits self.now.delivered.now) self.now.position.round.0 }
+        ensures { result ≡ by_round some_opened self.now }
     {
         let value = Log::value_of(self.poll().opening());
         self.poll().accepts_opening(value).then_some(value)
@@ -50,14 +59,11 @@ impl<'a> Outlook<'a> {
     // it, and where that is accepted so is each ballot that bears it.
     #[tactic(auto, using(crate::proofs::Rules::rules_rule_outlook_value_with), unfolding(crate::specs::Ballots::some_with, crate::specs::Ballots::some_opened))]
     fn value_with(&self, least: u8) -> Option<u16>
-        ensures { result ≡ some_with limits self.now.n (heard limits self.now.delivered.now) self.now.position.round.0 least }
+        ensures { result ≡ by_round some_with self.now least }
     {
         let value = self.opened_value()?;
         let backing = self.poll().count_bearing(Log::entry_of(value));
-        if backing == 0 || backing < least {
-            return None;
-        }
-        Some(value)
+        (backing >= least.max(1)).then_some(value)
     }
 
     // Stage A.
@@ -74,7 +80,7 @@ impl<'a> Outlook<'a> {
     // Whether the board may vote: its coordinator's opening is there, or the coordinator is suspected.
     #[tactic(auto, using(crate::proofs::Rules::rules_rule_outlook_may_vote))]
     fn may_vote(&self) -> bool
-        ensures { result ≡ may_vote limits self.now.n self.now.position (heard limits self.now.delivered.now) }
+        ensures { result ≡ by_position may_vote self.now }
     {
         let coordinator = self.position.round.coordinator(self.n);
         self.poll().opening() != 0 || self.position.suspected.contains(coordinator)
@@ -83,7 +89,7 @@ impl<'a> Outlook<'a> {
     // Stage B.
     #[tactic(auto, unfolding(crate::specs::Rule::vote_move, crate::specs::Ballots::some_opened))]
     fn vote_move(&self) -> Move
-        ensures { result ≡ vote_move limits self.now.n self.now.position (heard limits self.now.delivered.now) }
+        ensures { result ≡ by_position vote_move self.now }
     {
         if !self.may_vote() {
             return Move::Waits;
@@ -94,7 +100,7 @@ impl<'a> Outlook<'a> {
     // Whether the board may count: a quorum has ballots, and every board without one is suspected.
     #[tactic(auto, using(crate::proofs::Rules::rules_rule_outlook_may_count))]
     fn may_count(&self) -> bool
-        ensures { result ≡ may_count limits self.now.n self.now.position (heard limits self.now.delivered.now) }
+        ensures { result ≡ by_position may_count self.now }
     {
         let ballots = self.poll().ballots();
         ballots.count(self.n) >= bus::quorum(self.n)
@@ -104,7 +110,7 @@ impl<'a> Outlook<'a> {
     // The estimate that the round leaves the board with.
     #[tactic(auto, unfolding(crate::specs::Rule::next_estimate, crate::specs::Ballots::some_with))]
     fn next_estimate(&self) -> u16
-        ensures { result ≡ next_estimate limits self.now.n self.now.position (heard limits self.now.delivered.now) }
+        ensures { result ≡ by_position next_estimate self.now }
     {
         self.value_with(bus::overlap(self.n))
             .unwrap_or(self.position.estimate)
@@ -113,9 +119,10 @@ impl<'a> Outlook<'a> {
     // The end of a round in which the board decides nothing.
     #[tactic(auto, unfolding(crate::specs::Rule::onward))]
     fn onward(&self) -> Move
-        ensures { result ≡ onward limits self.now.n self.now.position (heard limits self.now.delivered.now) }
+        ensures { result ≡ by_position onward self.now }
     {
         let estimate = self.next_estimate();
+        // compared as a number: `Round(Round::LAST)` is no plainer
         if self.position.round.0 < Round::LAST {
             return Move::Advances(estimate);
         }
@@ -125,7 +132,7 @@ impl<'a> Outlook<'a> {
     // Stage C.
     #[tactic(auto, unfolding(crate::specs::Rule::count_move, crate::specs::Ballots::some_with))]
     fn count_move(&self) -> Move
-        ensures { result ≡ count_move limits self.now.n self.now.position (heard limits self.now.delivered.now) }
+        ensures { result ≡ by_position count_move self.now }
     {
         if !self.may_count() {
             return Move::Waits;
