@@ -22,7 +22,7 @@ use Rattle.vote.specs.declared.board.Decision.{Decision}
 use Rattle.vote.specs.declared.board.Status.TheVariants.{Decided}
 use Rattle.vote.specs.declared.turn.Turn.{Turn}
 use Rattle.vote.proofs.StatusLaws.{started-decided, ended-decided, decided-decided, decided-one, voting-decided, spent-decided, idle-decided}
-use Rattle.vote.proofs.TurnLaws.{turned, Course, not_taken, passed, opened, balloted, decided, advanced, expired, turn-course, turn-ended}
+use Rattle.vote.proofs.TurnLaws.{Course, not_taken, passed, opened, balloted, decided, advanced, expired, turn-course, turn-ended}
 use Rattle.vote.proofs.BoardLaws.{propose-started, propose-cases, hears-grows, deliver-hears, suspect-adds, trust-drops, adopted, announce-cases}
 use Rattle.vote.proofs.SigningLaws.{due, due-started, due-same, due-idle, turn-due, signed-past, signs-due, turn-signs}
 use Rattle.vote.proofs.ProperLaws.{Proper, fresh-proper, voting-round, called-proper}
@@ -60,13 +60,13 @@ module _ (L : Limits) (n me : ℕ) (b : Board) where
   from c = Grows (store L b) (store L c)
 
   course-grows : (t : Turn) → Course L n me b t → from t.board
-  course-grows t (not_taken a e) = turned from t _ e (grows_same (store L b))
-  course-grows t (passed v g f e) = turned from t _ e (grows_same (store L b))
-  course-grows t (opened v g c e) = turned from t _ e (hears-grows L b.delivered _)
-  course-grows t (balloted v g y e) = turned from t _ e (hears-grows L b.delivered _)
-  course-grows t (decided w v g m o e) = turned from t _ e (grows_same (store L b))
-  course-grows t (advanced w v g m z l x e) = turned from t _ e (grows_same (store L b))
-  course-grows t (expired w v g m z l x e) = turned from t _ e (grows_same (store L b))
+  course-grows t (not_taken a e) = rw e (grows_same (store L b))
+  course-grows t (passed v g f e) = rw e (grows_same (store L b))
+  course-grows t (opened v g c e) = rw e (hears-grows L b.delivered _)
+  course-grows t (balloted v g y e) = rw e (hears-grows L b.delivered _)
+  course-grows t (decided w v g m o e) = rw e (grows_same (store L b))
+  course-grows t (advanced w v g m z l x e) = rw e (grows_same (store L b))
+  course-grows t (expired w v g m z l x e) = rw e (grows_same (store L b))
 
   pub called-grows : (c : Call) → Grows (store L b) (store L (called L n me b c))
   unfolding called
@@ -104,15 +104,15 @@ module _ (L : Limits) (n me : ℕ) (b : Board) where
   Grounds d = (b.status ≡ Decided d) ⊎ Won L n (store L b) d.round.0 d.value
 
   course-won : (t : Turn) → Course L n me b t → (d : Decision) → t.board.status ≡ Decided d → Grounds d
-  course-won t (not_taken a e) d i = inl (sym (ap (λ (u : Turn). u.board.status) e) ∙ i)
-  course-won t (passed v g f e) d i = absurd (voting-decided d (sym (ap (λ (u : Turn). u.board.status) e) ∙ i))
-  course-won t (opened v g c e) d i = absurd (voting-decided d (sym (ap (λ (u : Turn). u.board.status) e) ∙ i))
-  course-won t (balloted v g y e) d i = absurd (voting-decided d (sym (ap (λ (u : Turn). u.board.status) e) ∙ i))
+  course-won t (not_taken a e) d i = inl (rw e at i)
+  course-won t (passed v g f e) d i = absurd (voting-decided d (rw e at i))
+  course-won t (opened v g c e) d i = absurd (voting-decided d (rw e at i))
+  course-won t (balloted v g y e) d i = absurd (voting-decided d (rw e at i))
   course-won t (decided w v g m o e) d i =
-      let k = decided-one (decision_of b.position.round.0 w) d (sym (ap (λ (u : Turn). u.board.status) e) ∙ i) in
+      let k = decided-one (decision_of b.position.round.0 w) d (rw e at i) in
       inr (subst (λ (x : Decision). Won L n (store L b) x.round.0 x.value) k o)
-  course-won t (advanced w v g m z l x e) d i = absurd (voting-decided d (sym (ap (λ (u : Turn). u.board.status) e) ∙ i))
-  course-won t (expired w v g m z l x e) d i = absurd (spent-decided d (sym (ap (λ (u : Turn). u.board.status) e) ∙ i))
+  course-won t (advanced w v g m z l x e) d i = absurd (voting-decided d (rw e at i))
+  course-won t (expired w v g m z l x e) d i = absurd (spent-decided d (rw e at i))
 
   pub called-won : (c : Call) (d : Decision) → (called L n me b c).status ≡ Decided d
       → (b.status ≡ Decided d) ⊎ Won L n (store L b) d.round.0 d.value

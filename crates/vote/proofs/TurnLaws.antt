@@ -4,7 +4,7 @@ use mathlib.Core.Path.{◌≡◌, refl, sym, ap, subst⁻¹, ◌∙◌}
 use mathlib.Core.Bool.{true, true≢false}
 use mathlib.Core.Logic.{◌⊎◌, inl}
 use native.Mathlib.Omega.{arith}
-use Rattle.std.specs.Prelude.{None, Some, Result, Ok, Err}
+use Rattle.std.specs.Prelude.{None, Some, Ok}
 use Rattle.delivery.specs.Limits.{Limits}
 use Rattle.delivery.specs.Rounds.{coordinator, next_round}
 use Rattle.delivery.specs.Delivered.{Store, heard}
@@ -17,7 +17,7 @@ use Rattle.delivery.proofs.AgreementLaws.{Won}
 use Rattle.vote.specs.Ballots.{opened_value}
 use Rattle.vote.specs.Boards.{is_ended, decision_of, hears}
 use Rattle.vote.specs.Rule.{may_vote, chosen, rule}
-use Rattle.vote.specs.Turns.{turn_number, turn_answer, at_stage, position_after, status_after, statement_of, said_in, hears_own, answer_to, refuse, take, turn_in, turn}
+use Rattle.vote.specs.Turns.{turn_number, at_stage, position_after, status_after, statement_of, said_in, hears_own, answer_to, refuse, take, turn_in, turn}
 use Rattle.vote.specs.declared.position.Stage.{Stage}
 use Rattle.vote.specs.declared.position.Stage.TheVariants.{Open, Vote, Count}
 use Rattle.vote.specs.declared.rule.Move.{Move}
@@ -90,12 +90,6 @@ unfolding turn_number
 refusal-within NotStarted = (omega arith, omega arith)
 refusal-within Ended = (omega arith, omega arith)
 refusal-within Waiting = (omega arith, omega arith)
-
--- and 0 is the number of a turn that is taken alone
-pub number-some : (a : Result (Unit {0}) Refusal) → turn_answer a ≡ 0 → a ≡ Ok tt
-unfolding turn_answer
-number-some (Ok tt) e = refl
-number-some (Err r) e = absurd (omega (arith, e, refusal-within r))
 
 -- whose turn is not taken: one that has not started, and one that is decided or spent
 ended-turn : (L : Limits) (n me : ℕ) (b : Board) (s : Status) → is_ended s ≡ true → turn_in L n me b s ≡ refuse b Ended
@@ -185,13 +179,13 @@ module _ (L : Limits) (n me : ℕ) (b : Board) where
 
   -- a turn that is not done changes nothing and signs nothing; above all one in which the board waits
   course-refused : (t : Turn) → Course t → (t.answer ≡ Ok tt → ⊥) → (t.board ≡ b) × (t.signed ≡ None)
-  course-refused t (not_taken a e) x = (ap (λ (u : Turn). u.board) e, ap (λ (u : Turn). u.signed) e)
-  course-refused t (passed v g f e) x = absurd (x (ap (λ (u : Turn). u.answer) e))
-  course-refused t (opened v g c e) x = absurd (x (ap (λ (u : Turn). u.answer) e))
-  course-refused t (balloted v g y e) x = absurd (x (ap (λ (u : Turn). u.answer) e))
-  course-refused t (decided w v g m o e) x = absurd (x (ap (λ (u : Turn). u.answer) e))
-  course-refused t (advanced w v g m z l k e) x = absurd (x (ap (λ (u : Turn). u.answer) e))
-  course-refused t (expired w v g m z l k e) x = absurd (x (ap (λ (u : Turn). u.answer) e))
+  course-refused t (not_taken a e) x = (rw e refl, rw e refl)
+  course-refused t (passed v g f e) x = absurd (x (rw e refl))
+  course-refused t (opened v g c e) x = absurd (x (rw e refl))
+  course-refused t (balloted v g y e) x = absurd (x (rw e refl))
+  course-refused t (decided w v g m o e) x = absurd (x (rw e refl))
+  course-refused t (advanced w v g m z l k e) x = absurd (x (rw e refl))
+  course-refused t (expired w v g m z l k e) x = absurd (x (rw e refl))
 
   pub turn-refused : ((turn L n me b).answer ≡ Ok tt → ⊥) → ((turn L n me b).board ≡ b) × ((turn L n me b).signed ≡ None)
   turn-refused = course-refused (turn L n me b) turn-course
@@ -203,15 +197,13 @@ module _ (L : Limits) (n me : ℕ) (b : Board) where
   course-estimate : (t : Turn) → Course t
       → (t.board.position.estimate ≡ b.position.estimate)
       ⊎ (accepts_opening L n store round.0 t.board.position.estimate ≡ true)
-  course-estimate t (not_taken a e) = inl (ap (λ (u : Turn). u.board.position.estimate) e)
-  course-estimate t (passed v g f e) = inl (ap (λ (u : Turn). u.board.position.estimate) e)
-  course-estimate t (opened v g c e) = inl (ap (λ (u : Turn). u.board.position.estimate) e)
-  course-estimate t (balloted v g y e) = inl (ap (λ (u : Turn). u.board.position.estimate) e)
-  course-estimate t (decided w v g m o e) = inl (ap (λ (u : Turn). u.board.position.estimate) e)
-  course-estimate t (advanced w v g m z l k e) =
-      rw (ap (λ (u : Turn). u.board.position.estimate) e) (next-origin L n me b.position store w k)
-  course-estimate t (expired w v g m z l k e) =
-      rw (ap (λ (u : Turn). u.board.position.estimate) e) (next-origin L n me b.position store w k)
+  course-estimate t (not_taken a e) = inl (rw e refl)
+  course-estimate t (passed v g f e) = inl (rw e refl)
+  course-estimate t (opened v g c e) = inl (rw e refl)
+  course-estimate t (balloted v g y e) = inl (rw e refl)
+  course-estimate t (decided w v g m o e) = inl (rw e refl)
+  course-estimate t (advanced w v g m z l k e) = rw e (next-origin L n me b.position store w k)
+  course-estimate t (expired w v g m z l k e) = rw e (next-origin L n me b.position store w k)
 
   pub turn-estimate : ((turn L n me b).board.position.estimate ≡ b.position.estimate)
       ⊎ (accepts_opening L n (heard L b.delivered) b.position.round.0 (turn L n me b).board.position.estimate ≡ true)
