@@ -2,7 +2,7 @@
 use Prim.Native.Nat.{ℕ, suc, ◌≤◌, ◌<◌}
 use native.Mathlib.Omega.{arith}
 use native.Mathlib.Decide.{dec_lt}
-use mathlib.Core.Path.{◌≡◌, sym, ap, subst⁻¹, ◌∙◌}
+use mathlib.Core.Path.{◌≡◌, sym, ap, ◌∙◌}
 use mathlib.Core.Bool.{true, true≢false}
 use mathlib.Core.List.{List, [], ◌∷◌}
 use mathlib.Core.Logic.{⊎_elim}
@@ -34,7 +34,7 @@ use Rattle.vote.specs.declared.turn.Turn.{Turn}
 use Rattle.vote.proofs.StatusLaws.{idle-unstarted, started-voting}
 use Rattle.vote.proofs.BallotLaws.{Backed, opened-within, backed-opened, reads-with}
 use Rattle.vote.proofs.RuleLaws.{MayCount, Next, kept, taken}
-use Rattle.vote.proofs.TurnLaws.{turned, Course, not_taken, passed, opened, balloted, decided, advanced, expired, turn-course}
+use Rattle.vote.proofs.TurnLaws.{Course, not_taken, passed, opened, balloted, decided, advanced, expired, turn-course}
 use Rattle.vote.proofs.BoardLaws.{propose-cases, hears-grows, deliver-hears, suspect-adds, trust-drops, announce-cases}
 use Rattle.vote.proofs.ProperLaws.{Proper, fresh-proper, voting-round, called-proper}
 
@@ -156,32 +156,22 @@ module _ (L : Limits) (n me : ℕ) (b : Board) (some : 1 ≤ n) (p : Proper L b)
 
   -- every turn keeps it
   course-admitted : (t : Turn) → Course L n me b t → Admitted L n t.board
-  course-admitted t (not_taken x e) = turned (Admitted L n) t _ e a
-  course-admitted t (passed v g f e) = turned (Admitted L n) t _ e (stays Vote b.position.suspected Voting (λ s. voting v))
-  course-admitted t (opened v g c e) = turned (Admitted L n) t _ e (listens _ a.value Vote Voting (λ s. voting v))
+  course-admitted t (not_taken x e) = rw e a
+  course-admitted t (passed v g f e) = rw e (stays Vote b.position.suspected Voting (λ s. voting v))
+  course-admitted t (opened v g c e) = rw e (listens _ a.value Vote Voting (λ s. voting v))
   course-admitted t (balloted v g y e) =
-      turned (Admitted L n) t _ e (listens _ (opened-within L n store b.position.round.0) Count Voting (λ s. voting v))
+      rw e (listens _ (opened-within L n store b.position.round.0) Count Voting (λ s. voting v))
   course-admitted t (decided w v g m o e) =
-      turned (Admitted L n) t _ e (stays b.position.stage b.position.suspected _ (λ s. voting v))
+      rw e (stays b.position.stage b.position.suspected _ (λ s. voting v))
   course-admitted t (advanced w v g m z l x e) =
       let low = within_low L.rounds b.position.round.0 (voting-round L b p v) in
-      turned
-      (Admitted L n)
-      t
-      _
-      e
-      (record {
+      rw e (record {
         plain = a.plain;
         value = next-within L n b.position store w (a.plain _ _) a.value x;
         permitted = λ s. next-allowed L n b.position store w some low (a.plain _ _) m x (a.permitted (voting v));
       })
   course-admitted t (expired w v g m z l x e) =
-      turned
-      (Admitted L n)
-      t
-      _
-      e
-      (record {
+      rw e (record {
         plain = a.plain;
         value = next-within L n b.position store w (a.plain _ _) a.value x;
         permitted = λ s. next-permitted L n b.position store w x (a.permitted (voting v));
@@ -192,21 +182,19 @@ module _ (L : Limits) (n me : ℕ) (b : Board) (some : 1 ≤ n) (p : Proper L b)
   unfolding called
   called-admitted (proposal v) l =
       ⊎_elim
-      (λ e. subst⁻¹ (Admitted L n) e a)
+      (λ e. rw e a)
       (λ x.
-      subst⁻¹
-      (Admitted L n)
-      x.2
+      rw x.2
       (record { plain = a.plain; value = l; permitted = λ s. allowed-first L n store v ∙ value-some v x.1 }))
       (propose-cases b v)
   called-admitted own_turn l = course-admitted _ (turn-course L n me b)
-  called-admitted (delivery s) l = subst⁻¹ (Admitted L n) (deliver-hears L b s) (listens s l b.position.stage b.status (λ f. f))
-  called-admitted (suspicion k) l = subst⁻¹ (Admitted L n) (suspect-adds b k) (stays b.position.stage _ b.status (λ f. f))
-  called-admitted (restored-trust k) l = subst⁻¹ (Admitted L n) (trust-drops b k) (stays b.position.stage _ b.status (λ f. f))
+  called-admitted (delivery s) l = rw (deliver-hears L b s) (listens s l b.position.stage b.status (λ f. f))
+  called-admitted (suspicion k) l = rw (suspect-adds b k) (stays b.position.stage _ b.status (λ f. f))
+  called-admitted (restored-trust k) l = rw (trust-drops b k) (stays b.position.stage _ b.status (λ f. f))
   called-admitted (announcement r v) l =
       ⊎_elim
-      (λ e. subst⁻¹ (Admitted L n) e a)
-      (λ x. subst⁻¹ (Admitted L n) x.1 (stays b.position.stage b.position.suspected _ (λ s. x.0.started)))
+      (λ e. rw e a)
+      (λ x. rw x.1 (stays b.position.stage b.position.suspected _ (λ s. x.0.started)))
       (announce-cases L n b r v)
 
 -- so does every list of calls that fit

@@ -1,7 +1,7 @@
 -- Laws of a board's whole life, whatever is asked of it and in whatever order. Assumes nothing.
 use Prim.Native.Nat.{ℕ, suc, ◌≤◌, ◌<◌}
 use native.Mathlib.Omega.{arith}
-use mathlib.Core.Path.{◌≡◌, refl, sym, ap, subst, subst⁻¹, ◌∙◌}
+use mathlib.Core.Path.{◌≡◌, refl, sym, ap, subst, ◌∙◌}
 use mathlib.Core.Bool.{true≢false}
 use mathlib.Core.List.{List, [], ◌∷◌}
 use mathlib.Core.Logic.{◌⊎◌, inl, inr, ⊎_elim}
@@ -72,17 +72,17 @@ module _ (L : Limits) (n me : ℕ) (b : Board) where
   unfolding called
   called-grows (proposal v) =
       ⊎_elim
-      (λ e. subst⁻¹ from e (grows_same (store L b)))
-      (λ x. subst⁻¹ from x.2 (grows_same (store L b)))
+      (λ e. rw e (grows_same (store L b)))
+      (λ x. rw x.2 (grows_same (store L b)))
       (propose-cases b v)
   called-grows own_turn = course-grows _ (turn-course L n me b)
-  called-grows (delivery s) = subst⁻¹ from (deliver-hears L b s) (hears-grows L b.delivered s)
-  called-grows (suspicion k) = subst⁻¹ from (suspect-adds b k) (grows_same (store L b))
-  called-grows (restored-trust k) = subst⁻¹ from (trust-drops b k) (grows_same (store L b))
+  called-grows (delivery s) = rw (deliver-hears L b s) (hears-grows L b.delivered s)
+  called-grows (suspicion k) = rw (suspect-adds b k) (grows_same (store L b))
+  called-grows (restored-trust k) = rw (trust-drops b k) (grows_same (store L b))
   called-grows (announcement r v) =
       ⊎_elim
-      (λ e. subst⁻¹ from e (grows_same (store L b)))
-      (λ x. subst⁻¹ from x.1 (grows_same (store L b)))
+      (λ e. rw e (grows_same (store L b)))
+      (λ x. rw x.1 (grows_same (store L b)))
       (announce-cases L n b r v)
 
   -- a decision is final

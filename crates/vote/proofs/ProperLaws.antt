@@ -2,7 +2,7 @@
 -- a value, and it is spent nowhere but at stage C of the last round. Assumes nothing.
 use Prim.Native.Nat.{ℕ, suc, ◌≤◌}
 use native.Mathlib.Omega.{arith}
-use mathlib.Core.Path.{◌≡◌, refl, sym, ap, subst⁻¹, ◌∙◌}
+use mathlib.Core.Path.{◌≡◌, refl, sym, ap, ◌∙◌}
 use mathlib.Core.Bool.{true, true≢false}
 use mathlib.Core.Logic.{⊎_elim}
 use Rattle.signer.proofs.FromOneLaws.{within-high, within_in}
@@ -21,7 +21,7 @@ use Rattle.vote.specs.declared.board.Status.TheVariants.{Voting, Spent}
 use Rattle.vote.specs.declared.turn.Turn.{Turn}
 use Rattle.vote.proofs.StatusLaws.{started-voting, voting-spent, spent-decided, idle-spent, idle-unstarted}
 use Rattle.vote.proofs.RuleLaws.{Next, kept, taken}
-use Rattle.vote.proofs.TurnLaws.{placed, turned, Course, not_taken, passed, opened, balloted, decided, advanced, expired, turn-course}
+use Rattle.vote.proofs.TurnLaws.{placed, Course, not_taken, passed, opened, balloted, decided, advanced, expired, turn-course}
 use Rattle.vote.proofs.BoardLaws.{propose-cases, hears-whole, deliver-hears, suspect-adds, trust-drops, announce-cases}
 
 pub record Proper (L : Limits) (b : Board) : Type 0 where
@@ -59,41 +59,26 @@ module _ (L : Limits) (b : Board) (p : Proper L b) where
       record { whole = w; round = λ s. voting-round v; estimate = λ s. voting-estimate v; spent = λ s. absurd (voting-spent s) }
 
   course-proper : (n me : ℕ) (t : Turn) → Course L n me b t → Proper L t.board
-  course-proper n me t (not_taken a e) = turned (Proper L) t _ e p
-  course-proper n me t (passed v g f e) = turned (Proper L) t _ e (same-round Vote b.delivered v p.whole)
-  course-proper n me t (opened v g c e) = turned (Proper L) t _ e (same-round Vote _ v (hears-whole L b.delivered _ p.whole))
-  course-proper n me t (balloted v g y e) = turned (Proper L) t _ e (same-round Count _ v (hears-whole L b.delivered _ p.whole))
+  course-proper n me t (not_taken a e) = rw e p
+  course-proper n me t (passed v g f e) = rw e (same-round Vote b.delivered v p.whole)
+  course-proper n me t (opened v g c e) = rw e (same-round Vote _ v (hears-whole L b.delivered _ p.whole))
+  course-proper n me t (balloted v g y e) = rw e (same-round Count _ v (hears-whole L b.delivered _ p.whole))
   course-proper n me t (decided w v g m o e) =
-      turned
-      (Proper L)
-      t
-      _
-      e
-      (record {
+      rw e (record {
         whole = p.whole;
         round = λ s. voting-round v;
         estimate = λ s. voting-estimate v;
         spent = λ s. absurd (spent-decided _ (sym s));
       })
   course-proper n me t (advanced w v g m z l x e) =
-      turned
-      (Proper L)
-      t
-      _
-      e
-      (record {
+      rw e (record {
         whole = p.whole;
         round = λ s. within_in L.rounds (suc b.position.round.0) (omega arith) l;
         estimate = λ s. next-some n w v x;
         spent = λ s. absurd (voting-spent s);
       })
   course-proper n me t (expired w v g m z l x e) =
-      turned
-      (Proper L)
-      t
-      _
-      e
-      (record {
+      rw e (record {
         whole = p.whole;
         round = λ s. voting-round v;
         estimate = λ s. next-some n w v x;
@@ -108,11 +93,9 @@ module _ (L : Limits) (b : Board) (p : Proper L b) where
   unfolding called
   called-proper n me some (proposal v) =
       ⊎_elim
-      (λ e. subst⁻¹ (Proper L) e p)
+      (λ e. rw e p)
       (λ x.
-      subst⁻¹
-      (Proper L)
-      x.2
+      rw x.2
       (record {
         whole = p.whole;
         round = λ s. within_in L.rounds 1 (omega arith) some;
@@ -122,19 +105,15 @@ module _ (L : Limits) (b : Board) (p : Proper L b) where
       (propose-cases b v)
   called-proper n me some own_turn = course-proper n me _ (turn-course L n me b)
   called-proper n me some (delivery s) =
-      subst⁻¹
-      (Proper L)
-      (deliver-hears L b s)
+      rw (deliver-hears L b s)
       (record { whole = hears-whole L b.delivered s p.whole; round = p.round; estimate = p.estimate; spent = p.spent })
-  called-proper n me some (suspicion k) = subst⁻¹ (Proper L) (suspect-adds b k) (suspecting-proper (with_board b.position.suspected k))
-  called-proper n me some (restored-trust k) = subst⁻¹ (Proper L) (trust-drops b k) (suspecting-proper (without_board b.position.suspected k))
+  called-proper n me some (suspicion k) = rw (suspect-adds b k) (suspecting-proper (with_board b.position.suspected k))
+  called-proper n me some (restored-trust k) = rw (trust-drops b k) (suspecting-proper (without_board b.position.suspected k))
   called-proper n me some (announcement r v) =
       ⊎_elim
-      (λ e. subst⁻¹ (Proper L) e p)
+      (λ e. rw e p)
       (λ x.
-      subst⁻¹
-      (Proper L)
-      x.1
+      rw x.1
       (record {
         whole = p.whole;
         round = λ s. p.round x.0.started;

@@ -92,7 +92,7 @@ module _ (L : Limits) (n me : ℕ) (b : Board) where
         → (is_round L r ≡ true → due L b < due L t.board) → Speech t
 
   quiet : (t : Turn) (x : Board) → b.delivered ≡ x.delivered → t ≡ done x → Speech t
-  quiet t x i e = silent (ap (λ (u : Turn). u.signed) e) (ap (λ (u : Turn). u.board.delivered) e ∙ sym i)
+  quiet t x i e = silent (rw e refl) (rw e (sym i))
 
   -- at A and B the board goes on to the next identifier of its round
   open-vote : (t : Turn) → b.status ≡ Voting → b.position.stage ≡ Open → due L t.board ≡ identifier_of L Ballot r
@@ -111,22 +111,22 @@ module _ (L : Limits) (n me : ℕ) (b : Board) where
 
   course-speech : (t : Turn) → Course L n me b t → Speech t
   unfolding due due_in due_at
-  course-speech t (not_taken a e) = silent (ap (λ (u : Turn). u.signed) e) (ap (λ (u : Turn). u.board.delivered) e)
+  course-speech t (not_taken a e) = silent (rw e refl) (rw e refl)
   course-speech t (passed v g f e) = quiet t _ refl e
   course-speech t (opened v g c e) =
       speaks
       _
       (signs-opening v g c refl)
-      (ap (λ (u : Turn). u.signed) e)
-      (ap (λ (u : Turn). u.board.delivered) e)
-      (open-vote t v g (ap (λ (u : Turn). due L u.board) e))
+      (rw e refl)
+      (rw e refl)
+      (open-vote t v g (rw e refl))
   course-speech t (balloted v g y e) =
       speaks
       _
       (signs-ballot v g refl)
-      (ap (λ (u : Turn). u.signed) e)
-      (ap (λ (u : Turn). u.board.delivered) e)
-      (λ i. vote-count t v g (ap (λ (u : Turn). due L u.board) e))
+      (rw e refl)
+      (rw e refl)
+      (λ i. vote-count t v g (rw e refl))
   course-speech t (decided w v g m o e) = quiet t _ refl e
   course-speech t (advanced w v g m z l k e) = quiet t _ refl e
   course-speech t (expired w v g m z l k e) = quiet t _ refl e
@@ -159,20 +159,20 @@ module _ (L : Limits) (n me : ℕ) (b : Board) where
   course-due : (t : Turn) → Course L n me b t → (b.status ≡ Voting → is_round L r ≡ true) → due L b ≤ due L t.board
   unfolding due due_in due_at
   course-due t (not_taken a e) i = rw e (omega arith)
-  course-due t (passed v g f e) i = le_of_lt (open-vote t v g (ap (λ (u : Turn). due L u.board) e) (i v))
-  course-due t (opened v g c e) i = le_of_lt (open-vote t v g (ap (λ (u : Turn). due L u.board) e) (i v))
-  course-due t (balloted v g y e) i = le_of_lt (vote-count t v g (ap (λ (u : Turn). due L u.board) e))
+  course-due t (passed v g f e) i = le_of_lt (open-vote t v g (rw e refl) (i v))
+  course-due t (opened v g c e) i = le_of_lt (open-vote t v g (rw e refl) (i v))
+  course-due t (balloted v g y e) i = le_of_lt (vote-count t v g (rw e refl))
   course-due t (decided w v g m o e) i =
-      let x : due L t.board ≡ due_at L r b.position.stage = ap (λ (u : Turn). due L u.board) e in
+      let x : due L t.board ≡ due_at L r b.position.stage = rw e refl in
       let y : due L b ≡ due_at L r b.position.stage = ap (due_in L b.position) v in
       omega (arith, x, y)
   course-due t (advanced w v g m z l k e) i =
-      let x : due L t.board ≡ identifier_of L Opening (suc r) = ap (λ (u : Turn). due L u.board) e in
+      let x : due L t.board ≡ identifier_of L Opening (suc r) = rw e refl in
       let y : due L b ≡ suc (identifier_of L Ballot r) = due-voting Count v g in
       let h : is_round L (suc r) ≡ true = within_in L.rounds (suc r) (omega arith) l in
       omega (arith, x, y, ballot-opening L r (i v) h)
   course-due t (expired w v g m z l k e) i =
-      let x : due L t.board ≡ suc (identifier_of L Ballot r) = ap (λ (u : Turn). due L u.board) e in
+      let x : due L t.board ≡ suc (identifier_of L Ballot r) = rw e refl in
       let y : due L b ≡ suc (identifier_of L Ballot r) = due-voting Count v g in
       omega (arith, x, y)
 

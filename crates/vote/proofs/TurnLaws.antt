@@ -44,10 +44,6 @@ done b = record { board = b; answer = Ok tt; signed = None }
 abbrev pub spoken : Board → Statement → Turn
 spoken b s = record { board = b; answer = Ok tt; signed = Some s }
 
--- what holds of the board that a turn comes to holds of the board that the turn hands back
-pub turned : (P : Board → Type 0) (t u : Turn) → t ≡ u → P u.board → P t.board
-turned P t u e = subst⁻¹ (λ (x : Turn). P x.board) e
-
 -- what each move comes to
 module _ (L : Limits) (me : ℕ) (b : Board) where
   take-waits : b.status ≡ Voting → take L me b Waits ≡ refuse b Waiting
