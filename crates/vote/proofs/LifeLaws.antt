@@ -88,14 +88,14 @@ module _ (L : Limits) (n me : ℕ) (b : Board) where
   -- a decision is final
   pub called-final : (d : Decision) → b.status ≡ Decided d → (c : Call) → (called L n me b c).status ≡ Decided d
   unfolding called
-  called-final d e (proposal v) = ap (λ (x : Board). x.status) (propose-started b v (ap is_started e ∙ started-decided d)) ∙ e
-  called-final d e own_turn = ap (λ (t : Turn). t.board.status) (turn-ended L n me b (ap is_ended e ∙ ended-decided d)) ∙ e
-  called-final d e (delivery s) = ap (λ (x : Board). x.status) (deliver-hears L b s) ∙ e
-  called-final d e (suspicion k) = ap (λ (x : Board). x.status) (suspect-adds b k) ∙ e
-  called-final d e (restored-trust k) = ap (λ (x : Board). x.status) (trust-drops b k) ∙ e
+  called-final d e (proposal v) = rw (propose-started b v (ap is_started e ∙ started-decided d)) e
+  called-final d e own_turn = rw (called, turn-ended L n me b (ap is_ended e ∙ ended-decided d)) e
+  called-final d e (delivery s) = rw (deliver-hears L b s) e
+  called-final d e (suspicion k) = rw (suspect-adds b k) e
+  called-final d e (restored-trust k) = rw (trust-drops b k) e
   called-final d e (announcement r v) =
       ⊎_elim
-      (λ i. ap (λ (x : Board). x.status) i ∙ e)
+      (λ i. rw i e)
       (λ x. absurd (true≢false (sym (ap is_decided e ∙ decided-decided d) ∙ x.0.undecided)))
       (announce-cases L n b r v)
 
@@ -119,18 +119,18 @@ module _ (L : Limits) (n me : ℕ) (b : Board) where
   unfolding called
   called-won (proposal v) d i =
       ⊎_elim
-      (λ e. inl (sym (ap (λ (x : Board). x.status) e) ∙ i))
-      (λ x. absurd (voting-decided d (sym (ap (λ (y : Board). y.status) x.2) ∙ i)))
+      (λ e. inl (rw e at i))
+      (λ x. absurd (voting-decided d (rw x.2 at i)))
       (propose-cases b v)
   called-won own_turn d i = course-won _ (turn-course L n me b) d i
-  called-won (delivery s) d i = inl (sym (ap (λ (x : Board). x.status) (deliver-hears L b s)) ∙ i)
-  called-won (suspicion k) d i = inl (sym (ap (λ (x : Board). x.status) (suspect-adds b k)) ∙ i)
-  called-won (restored-trust k) d i = inl (sym (ap (λ (x : Board). x.status) (trust-drops b k)) ∙ i)
+  called-won (delivery s) d i = inl (rw (deliver-hears L b s) at i)
+  called-won (suspicion k) d i = inl (rw (suspect-adds b k) at i)
+  called-won (restored-trust k) d i = inl (rw (trust-drops b k) at i)
   called-won (announcement r v) d i =
       ⊎_elim
-      (λ e. inl (sym (ap (λ (x : Board). x.status) e) ∙ i))
+      (λ e. inl (rw e at i))
       (λ x.
-      let k = decided-one (decision_of r v) d (sym (ap (λ (y : Board). y.status) x.1) ∙ i) in
+      let k = decided-one (decision_of r v) d (rw x.1 at i) in
       inr (subst (λ (y : Decision). Won L n (store L b) y.round.0 y.value) k x.0.won))
       (announce-cases L n b r v)
 
