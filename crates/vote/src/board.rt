@@ -36,6 +36,7 @@ pub struct Board {
 }
 
 impl Board {
+    // A board that has not started, suspects nobody and has delivered nothing.
     #[tactic(auto, unfolding(crate::specs::Boards::fresh_board))]
     pub fn fresh() -> Board
         ensures { result ≡ fresh_board limits }
@@ -55,6 +56,7 @@ impl Board {
         !matches!(self.status, Status::Idle)
     }
 
+    // Whether it has decided a value.
     #[tactic(auto, unfolding(crate::specs::Boards::is_decided))]
     pub fn is_decided(&self) -> bool
         ensures { result ≡ is_decided self.now.status }

@@ -3,9 +3,10 @@ ghost use Rattle.vote.specs.Turns.{numbered};
 
 // A refusal, which has a number in document 01's table.
 pub trait Numbered {
-    // What the number is.
+    // What the number is, as contracts say it.
     ghost number_in_table: { Self → ℕ };
 
+    // The number itself.
     fn number(self) -> u8
         ensures { result ≡ number_in_table self };
 }

@@ -21,6 +21,7 @@ pub struct Position {
 }
 
 impl Position {
+    // Where a board stands that has not started: in no round, suspecting nobody.
     #[tactic(auto, unfolding(crate::specs::Boards::fresh_position))]
     pub(crate) fn fresh() -> Position
         ensures { result ≡ fresh_position }

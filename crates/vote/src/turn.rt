@@ -14,8 +14,11 @@ use delivery::{Phase, Round};
 // Why a turn was not taken, with its number in document 01's table.
 #[derive(Clone, Copy, Debug, PartialEq, Eq)]
 pub enum Refusal {
+    // the board has no proposal
     NotStarted = 15,
+    // it is decided or spent
     Ended = 16,
+    // it may not vote, or not count, before more is delivered or suspected
     Waiting = 22,
 }
 
@@ -111,7 +114,7 @@ impl Board {
         self.position.rule(n, me, &self.delivered)
     }
 
-    // Board `me`, voting, does this. What it says it delivers to itself at once.
+    // Board `me` does this, as one that is voting, whatever its status. What it says it delivers to itself at once.
     #[tactic(auto, unfolding(crate::specs::Turns::hears_own, crate::specs::Boards::deliver_to))]
     pub fn make(&mut self, me: u8, step: Move)
         ensures { self.new ≡ (take limits me self.old step).board }
@@ -124,6 +127,7 @@ impl Board {
         self.status = step.status(round);
     }
 
+    // A turn that is not taken, which leaves the board as it was.
     fn refuse(self, refusal: Refusal) -> Turn
         ensures { result ≡ refuse self refusal }
     {
@@ -134,7 +138,7 @@ impl Board {
         }
     }
 
-    // The turn of board `me` of n.
+    // The turn of board `me` of n, which it takes if it is voting.
     #[tactic(auto, unfolding(crate::specs::Turns::turn, crate::specs::Turns::turn_in))]
     pub fn turn(mut self, n: u8, me: u8) -> Turn
         ensures { result ≡ turn limits n me self }
