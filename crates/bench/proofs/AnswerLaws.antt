@@ -141,13 +141,6 @@ fresh-within (Ok _) = inl refl
 fresh-within (Err NoBus) = inr (omega arith, omega arith)
 fresh-within (Err NoMark) = inr (omega arith, omega arith)
 
--- and 0 is that of a bench that is made, alone
-pub fresh-made : (a : Result (Unit {0}) SetupFault) → fresh_number a ≡ 0 → a ≡ Ok tt
-unfolding fresh_number setup_number
-fresh-made (Ok _) e = refl
-fresh-made (Err NoBus) e = absurd (omega arith)
-fresh-made (Err NoMark) e = absurd (omega arith)
-
 -- where an event's is not 0, the bench is as it was
 pub refused-same : (L : Limits) (c : Bench) (e : Event) → (answer_number (step_of L c e).answer ≡ 0 → ⊥) → (step_of L c e).bench ≡ c
 refused-same L c e f =

@@ -85,7 +85,7 @@ rows-pass [] ys u h = refl
 rows-pass ((true, a) ∷ xs) ys u h = grind (arith, h)
 rows-pass ((false, a) ∷ xs) ys u h = rows-pass xs ys u h
 
--- a board whose turn no row before the last refuses is voting
+-- a board whose turn no row before row 22 refuses is voting
 rows-left : (row : Bool × Refusal) (rows : List (Bool × Refusal)) (u : Unit {0}) → first_of (row ∷ rows) ≡ Ok u
     → (row.0 ≡ false) × (first_of rows ≡ Ok u)
 unfolding first_of
@@ -138,7 +138,7 @@ kind-stops e r h =
       none.0,
     )
 
--- what the table gives where a row before the last stops the event, and where none of them does; k is the event with its
+-- what the table gives where a row before row 22 stops the event, and where none of them does; k is the event with its
 -- kind told
 module _ (L : Limits) (c : Bench) (e : Event) where
   abbrev told : Result Event Refusal

@@ -51,7 +51,7 @@ module _ (L : Limits) (c : Bench) (k : ℕ) (v : (board_at L c k).status ≡ Vot
   move-waits (Advances w) i f = ap (λ (t : Turn). is_waiting t.answer) (took ∙ ap (take L k me) i ∙ take-advances L k me w)
   move-waits (Expires w) i f = ap (λ (t : Turn). is_waiting t.answer) (took ∙ ap (take L k me) i ∙ take-expires L k me w)
 
-  -- so the last row applies where the board waits, or its signer refuses what it says
+  -- so row 22 applies where the board waits, or its signer refuses what it says
   pub wait-waits : move_at L c k ≡ Waits → must_wait L c k ≡ true
   unfolding must_wait is_waiting
   wait-waits i = or_left _ _ (ap (λ (t : Turn). is_waiting t.answer) (turn-waits L c.n k me i v))

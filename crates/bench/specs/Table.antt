@@ -39,7 +39,7 @@ use Rattle.bench.specs.declared.answer.Refusal.TheVariants.{
 abbrev is : Event → ℕ → Bool
 is e k = eqb e.kind k
 
--- what a turn of board a comes to that is answered by the last row: the board waits; or, which no bench that was played
+-- what a turn of board a comes to that is answered by row 22: the board waits; or, which no bench that was played
 -- from a fresh one comes to, its signer refuses what it says
 unfoldable pub is_waiting : Result (Unit {0}) TurnRefusal → Bool
 is_waiting (Ok _) = false
@@ -108,7 +108,7 @@ module _ (L : Limits) (c : Bench) (e : Event) where
   unfoldable pub signed_row : Bool
   signed_row = is e delivering and neg (eqb (signed_by L c e.b e.id) (entry_of e.value))
 
-  -- 18: a's signer has signed under this identifier or a higher one
+  -- 18, named for the signer's `last`: a's signer has signed under this identifier or a higher one
   unfoldable pub last_row : Bool
   last_row = is e signing and leb e.id (signer_at L c e.a).last.0
 

@@ -39,7 +39,8 @@ impl Numbered for SetupFault {
 impl Numbered for Refusal {
     ghost number_in_table = { refusal_number };
 
-    // Those that a board gives to its turn have the vote's numbers, so the enum has none of its own.
+    // By a `match`: the kit takes the vote's as the enum's own numbers too, `WrongStart = TurnRefusal::NotStarted as isize`, but
+    // the proof of `self as u8` did not close, since the vote's laws do not say which numbers they are.
     #[tactic(auto, unfolding(crate::specs::Answers::refusal_number))]
     fn number(self) -> u8 {
         match self {

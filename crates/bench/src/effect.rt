@@ -1,8 +1,9 @@
-ghost use Rattle.std.specs.Prelude.{◌≡◌, ◌≢◌, Ok, Err, OnOk, OnErr, if◌then◌else◌};
+ghost use Rattle.std.specs.Prelude.{◌≡◌, Ok, Err, OnOk, OnErr, if◌then◌else◌};
+ghost use Rattle.std.specs.Fn.{FnOnceReturnsAtMut};
 ghost use Rattle.delivery.specs.Limits.{limits};
 ghost use Rattle.vote.specs.Turns.{take};
 ghost use Rattle.bench.specs.Benches.{board_at, IsVoting};
-ghost use Rattle.bench.specs.Events.{turning, delivering, signing};
+ghost use Rattle.bench.specs.Events.{turning};
 ghost use Rattle.bench.specs.declared.answer.Refusal.TheVariants.{MustWait};
 ghost use Rattle.bench.specs.Table.{must_wait, turn_rows, first_of};
 ghost use Rattle.bench.specs.Effects.{with_board_at, with_signature, after_saying, after_turn, brought, after_hearing, effect_of, step_of};
@@ -12,7 +13,7 @@ use crate::bench::Bench;
 use crate::event::{Event, Kind, Known};
 use delivery::{Delivered, Round};
 use signer::Identifier;
-use vote::{Move, Statement};
+use vote::{Board, Move, Statement};
 
 // What comes of an event: the bench afterwards, and the answer. It is no `Result` of a bench, since a refused event leaves
 // one too.
@@ -36,6 +37,17 @@ impl Known {
 }
 
 impl Bench {
+    // Changes board k; nothing changes where the number is no board's.
+    #[tactic(auto, using(crate::proofs::Rules::rules_places), unfolding(crate::specs::Benches::board_at, crate::specs::Effects::with_board_at))]
+    fn change<F: FnOnce(&mut Board)>(&mut self, k: u8, change: F)
+        requires { F.IsAlwaysCallable change }
+        ensures { (f : Board → Board) → ((b : Board) → FnOnceReturnsAtMut F.FnOnce change (board_at limits self.old k) tt b → b ≡ f (board_at limits self.old k)) → self.new ≡ with_board_at self.old k (f (board_at limits self.old k)) }
+    {
+        if Delivered::is_board(k) {
+            change(&mut self.boards[k as usize - 1]);
+        }
+    }
+
     // Board k's signer is asked to sign a value under an identifier; nobody is where the number is no board's.
     #[tactic(auto, using(crate::proofs::Rules::rules_places), unfolding(crate::specs::Effects::with_signature, crate::specs::Benches::signer_at))]
     fn sign(&mut self, k: u8, id: Identifier, value: u16)
@@ -59,13 +71,10 @@ impl Bench {
     }
 
     // Board k, which is voting, makes this move.
-    #[tactic(auto, using(crate::proofs::Rules::rules_places), unfolding(crate::specs::Benches::board_at, crate::specs::Effects::with_board_at))]
     fn make(&mut self, k: u8, step: Move)
         ensures { self.new ≡ with_board_at self.old k (take limits k (board_at limits self.old k) step).board }
     {
-        if Delivered::is_board(k) {
-            self.boards[k as usize - 1].make(k, step);
-        }
+        self.change(k, |board| board.make(k, step));
     }
 
     // Board k, which is voting, takes its turn; nothing changes where it waits, or its signer refuses what it says.
@@ -83,39 +92,16 @@ impl Bench {
     }
 
     // Board k delivers a statement, and echoes it.
-    #[tactic(auto, using(crate::proofs::Rules::rules_places), unfolding(crate::specs::Benches::board_at, crate::specs::Effects::after_hearing, crate::specs::Effects::with_owed, crate::specs::Effects::with_board_at))]
     fn hear(&mut self, k: u8, s: Statement)
         ensures { self.new ≡ after_hearing limits self.old k s }
     {
         let have = self.holders(s.speaker, s.id);
         self.owed
             .record_delivery(k, s.speaker, s.id, self.sound, have);
-        if Delivered::is_board(k) {
-            self.boards[k as usize - 1].deliver(s);
-        }
+        self.change(k, |board| board.deliver(s));
     }
 
-    // Board a starts, is told of a decision, suspects or trusts, by the event's kind.
-    #[tactic(auto, using(crate::proofs::Rules::rules_places), unfolding(crate::specs::Benches::board_at, crate::specs::Effects::effect_of, crate::specs::Effects::with_board_at, crate::specs::Events::kind_number))]
-    fn tell(&mut self, e: &Known)
-        requires { (e.now.kind ≢ turning) × (e.now.kind ≢ delivering) × (e.now.kind ≢ signing) }
-        ensures { self.new ≡ effect_of limits self.old e.now }
-    {
-        if !Delivered::is_board(e.a) {
-            return;
-        }
-        let n = self.n;
-        let board = &mut self.boards[e.a as usize - 1];
-        match e.kind {
-            Kind::Propose => board.propose(e.value),
-            Kind::Announce => board.announce(n, Round(e.id), e.value),
-            Kind::Suspect => board.suspect(e.b),
-            Kind::Trust => board.trust(e.b),
-            _ => {}
-        }
-    }
-
-    // What an event does that no row before the last applies to.
+    // What an event does that none of rows 10 to 21 applies to; row 22 refuses a turn.
     #[tactic(auto, using(crate::proofs::Rules::rules_tests), unfolding(crate::specs::Effects::effect_of, crate::specs::Table::turn_row, crate::specs::Events::kind_number, crate::specs::Table::first_of))]
     fn effect(&mut self, e: &Known) -> Result<(), Refusal>
         requires { e.now.kind ≡ turning → IsVoting limits self.old e.now.a }
@@ -124,10 +110,16 @@ impl Bench {
         ensures err { OnErr result (self.new ≡ self.old) }
     {
         match e.kind {
+            Kind::Propose => self.change(e.a, |board| board.propose(e.value)),
             Kind::Turn => self.turn(e.a)?,
             Kind::Deliver => self.hear(e.a, e.brought()),
+            Kind::Announce => {
+                let n = self.n;
+                self.change(e.a, |board| board.announce(n, Round(e.id), e.value));
+            }
+            Kind::Suspect => self.change(e.a, |board| board.suspect(e.b)),
+            Kind::Trust => self.change(e.a, |board| board.trust(e.b)),
             Kind::Sign => self.sign(e.a, Identifier(e.id), e.value),
-            _ => self.tell(e),
         }
         Ok(())
     }

@@ -1,7 +1,7 @@
 ghost use Rattle.std.specs.Prelude.{◌≡◌, Ok, Err, get_or, if◌then◌else◌};
 ghost use Rattle.bench.specs.Table.{kind_row};
 ghost use Rattle.bench.specs.declared.answer.Refusal.TheVariants.{NoKind};
-ghost use Rattle.bench.specs.Events.{kind_number, kind_of, uses_other, uses_id, uses_value, high_first, event_from};
+ghost use Rattle.bench.specs.Events.{kind_number, kind_of, uses_other, uses_id, uses_value, event_from};
 
 use crate::answer::Refusal;
 use std::marker::Model;
@@ -18,7 +18,9 @@ pub enum Kind {
     Sign,
 }
 
-// An event as it stands in a schedule, whatever its fields hold. Its kind stays a number, since a schedule may hold any.
+// An event as it stands in a schedule, whatever its fields hold: its kind; a, the board that the event is for; b, the other
+// board; id, an identifier, or the round of an announcement; and a value. Its kind stays a number, since a schedule may hold
+// any.
 #[derive(Clone, Copy, Debug, PartialEq, Eq)]
 pub struct Event {
     pub kind: u8,
@@ -107,13 +109,6 @@ impl Event {
     // The bytes of an event in a list of them.
     pub const BYTES: usize = 6;
 
-    // A number in two bytes, the high one first. It stays beside `u16::from_be_bytes`, since callers have its contract.
-    pub fn high_first(high: u8, low: u8) -> u16
-        ensures { result ≡ high_first high low }
-    {
-        u16::from_be_bytes([high, low])
-    }
-
     // The event that the first bytes of a list are; bytes that are not there count as 0.
     #[tactic(auto, unfolding(crate::specs::Events::event_from))]
     pub fn read(bytes: &[u8]) -> Event
@@ -124,7 +119,7 @@ impl Event {
             a: byte(bytes, 1),
             b: byte(bytes, 2),
             id: byte(bytes, 3),
-            value: Event::high_first(byte(bytes, 4), byte(bytes, 5)),
+            value: u16::from_be_bytes([byte(bytes, 4), byte(bytes, 5)]),
         }
     }
 

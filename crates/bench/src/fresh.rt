@@ -19,7 +19,8 @@ pub struct Fresh {
     pub answer: Result<(), SetupFault>,
 }
 
-// The boards of 1 to n that are marked sound, if the marks of all of these are marks.
+// The boards of 1 to n that are marked sound, if the marks of all of these are marks. A loop of its own, beside that of
+// `Bench::holders`: this one also tests the marks, and stops at one that is none.
 #[tactic(auto, using(crate::proofs::Rules::rules_fresh_sound_of), unfolding(crate::specs::Setups::is_mark_at, crate::specs::Setups::is_marked_sound))]
 fn sound_of(n: u8, marks: &[u8; Bench::BOARDS as usize]) -> Result<BoardSet, SetupFault>
     requires { n ≤ limits.boards }

@@ -18,7 +18,8 @@ pub enum Letter {
     Absent = b'-' as isize,
 }
 
-// What a bench shows of a board.
+// What a bench shows of a board. A report prints all three for every letter, so a round and a value stand beside it always;
+// they are 0 where there is none.
 #[derive(Clone, Copy, Debug, PartialEq, Eq)]
 pub struct Shown {
     pub letter: Letter,

@@ -15,15 +15,16 @@ use delivery::{Round, bus};
 use signer::{Identifier, Log, Signer, from_one};
 use vote::{Board, Move, Statement};
 
-// A row of the table: the event is refused so where it applies.
+// A row of document 01's table: the event is refused so where it applies.
 fn refuse_if(applies: bool, refusal: Refusal) -> Result<(), Refusal>
     ensures { result ≡ (if applies then Err refusal else Ok tt) }
 {
     if applies { Err(refusal) } else { Ok(()) }
 }
 
-// What the table asks of the event alone.
+// What the table asks of the event alone. Row 10, that its kind is none, is told by `Event::known`.
 impl Known {
+    // Row 12: b is not used, and not 0.
     #[tactic(auto, using(crate::proofs::Rules::rules_tests), unfolding(crate::specs::Table::wrong_other))]
     fn wrong_other(&self) -> bool
         ensures { result ≡ wrong_other self.now }
@@ -31,6 +32,7 @@ impl Known {
         !self.kind.uses_other() && self.b != 0
     }
 
+    // Row 12: the identifier or round is none, or it is not used, and not 0.
     #[tactic(auto, using(crate::proofs::Rules::rules_tests), unfolding(crate::specs::Table::wrong_id, crate::specs::Events::uses_id, crate::specs::Events::kind_number))]
     fn wrong_id(&self) -> bool
         ensures { result ≡ wrong_id limits self.now }
@@ -42,6 +44,7 @@ impl Known {
         }
     }
 
+    // Row 12: the value is the blank, and no blank may stand there, or it is not used, and not 0.
     #[tactic(auto, using(crate::proofs::Rules::rules_tests), unfolding(crate::specs::Table::wrong_value, crate::specs::Events::uses_value, crate::specs::Events::uses_id, crate::specs::Events::kind_number))]
     fn wrong_value(&self) -> bool
         ensures { result ≡ wrong_value self.now }
@@ -52,6 +55,7 @@ impl Known {
         }
     }
 
+    // Row 12: a field other than the boards is wrong.
     #[tactic(auto, using(crate::proofs::Rules::rules_tests), unfolding(crate::specs::Table::fields_row))]
     fn fields_row(&self) -> bool
         ensures { result ≡ fields_row limits self.now }
@@ -59,6 +63,7 @@ impl Known {
         self.wrong_other() || self.wrong_id() || self.wrong_value()
     }
 
+    // Row 14: an announcement, suspicion or trust of a board about itself.
     #[tactic(auto, using(crate::proofs::Rules::rules_tests), unfolding(crate::specs::Table::pair_row, crate::specs::Events::kind_number))]
     fn pair_row(&self) -> bool
         ensures { result ≡ pair_row self.now }
@@ -86,6 +91,7 @@ fn voting(boards: &[Board], k: u8) -> &Board
 
 // What it asks of the bench.
 impl Bench {
+    // Row 11: a, or b where it is used, is no board of the bench.
     #[tactic(auto, using(crate::proofs::Rules::rules_tests), unfolding(crate::specs::Table::boards_row))]
     fn boards_row(&self, e: &Known) -> bool
         ensures { result ≡ boards_row self.now e.now }
@@ -93,6 +99,7 @@ impl Bench {
         !from_one::within(e.a, self.n) || e.kind.uses_other() && !from_one::within(e.b, self.n)
     }
 
+    // Row 13: a sound board's signer is asked, or another event is for a faulty board.
     #[tactic(auto, using(crate::proofs::Rules::rules_tests), unfolding(crate::specs::Table::mark_row, crate::specs::Events::kind_number))]
     fn mark_row(&self, e: &Known) -> bool
         ensures { result ≡ mark_row self.now e.now }
@@ -103,6 +110,7 @@ impl Bench {
         }
     }
 
+    // Row 15: a proposal to a board that has started, a turn of or an announcement to one that has not.
     #[tactic(auto, using(crate::proofs::Rules::rules_tests), unfolding(crate::specs::Table::start_row, crate::specs::Events::kind_number))]
     fn start_row(&self, e: &Known) -> bool
         ensures { result ≡ start_row limits self.now e.now }
@@ -114,6 +122,7 @@ impl Bench {
         }
     }
 
+    // Row 16: a turn of a board that is decided or spent, an announcement to one that is decided.
     #[tactic(auto, using(crate::proofs::Rules::rules_tests), unfolding(crate::specs::Table::end_row, crate::specs::Events::kind_number))]
     fn end_row(&self, e: &Known) -> bool
         ensures { result ≡ end_row limits self.now e.now }
@@ -125,6 +134,7 @@ impl Bench {
         }
     }
 
+    // Row 17: b has not signed what is to be delivered.
     #[tactic(auto, using(crate::proofs::Rules::rules_tests), unfolding(crate::specs::Table::signed_row, crate::specs::Events::kind_number))]
     fn signed_row(&self, e: &Known) -> bool
         ensures { result ≡ signed_row limits self.now e.now }
@@ -132,13 +142,15 @@ impl Bench {
         e.kind == Kind::Deliver && self.signed(e.b, Identifier(e.id)) != Log::entry_of(e.value)
     }
 
+    // Row 18, named for the signer's `last`: a's signer has signed under this identifier or a higher one.
     #[tactic(auto, using(crate::proofs::Rules::rules_tests), unfolding(crate::specs::Table::last_row, crate::specs::Events::kind_number))]
     fn last_row(&self, e: &Known) -> bool
         ensures { result ≡ last_row limits self.now e.now }
     {
-        e.kind == Kind::Sign && e.id <= self.signer(e.a).last.0
+        e.kind == Kind::Sign && Identifier(e.id) <= self.signer(e.a).last
     }
 
+    // Row 19: a has delivered b's statement under this identifier.
     #[tactic(auto, using(crate::proofs::Rules::rules_tests), unfolding(crate::specs::Table::delivered_row, crate::specs::Events::kind_number))]
     fn delivered_row(&self, e: &Known) -> bool
         ensures { result ≡ delivered_row limits self.now e.now }
@@ -146,6 +158,7 @@ impl Bench {
         e.kind == Kind::Deliver && self.delivered(e.a, e.b, Identifier(e.id)) != 0
     }
 
+    // Row 20: the announcer is sound, and has not decided so.
     #[tactic(auto, using(crate::proofs::Rules::rules_tests), unfolding(crate::specs::Table::announcer_row, crate::specs::Events::kind_number))]
     fn announcer_row(&self, e: &Known) -> bool
         ensures { result ≡ announcer_row limits self.now e.now }
@@ -155,6 +168,7 @@ impl Bench {
             && !self.board(e.b).has_decided(Round(e.id), e.value)
     }
 
+    // Row 21: a accepts too few ballots for what is announced.
     #[tactic(auto, using(crate::proofs::Rules::rules_tests), unfolding(crate::specs::Table::ballots_row, crate::specs::Events::kind_number))]
     fn ballots_row(&self, e: &Known) -> bool
         ensures { result ≡ ballots_row limits self.now e.now }
@@ -163,7 +177,8 @@ impl Bench {
             && self.board(e.a).tally(self.n, Round(e.id), e.value) < bus::quorum(self.n)
     }
 
-    // What board k, which is voting, does and says in its turn, unless it waits, or its signer refuses what it says.
+    // Row 22, of board k, which is voting: it waits, or its signer refuses what it says. Else what it does and says in its
+    // turn.
     #[tactic(auto, using(crate::proofs::Rules::rules_bench_bench_next_move), unfolding(crate::specs::Benches::board_at))]
     pub(crate) fn next_move(&self, k: u8) -> Result<(Move, Option<Statement>), Refusal>
         requires { IsVoting limits self.now k }
@@ -178,7 +193,7 @@ impl Bench {
         Ok((step, said))
     }
 
-    // The rows about the event and the marks, of an event of this kind.
+    // Rows 11 to 14, about the event and the marks.
     #[tactic(auto, unfolding(crate::specs::Table::first_of))]
     fn check_event(&self, e: &Known) -> Result<(), Refusal>
         ensures { result ≡ first_of (event_rows limits self.now e.now) }
@@ -189,7 +204,7 @@ impl Bench {
         refuse_if(e.pair_row(), Refusal::SameBoard)
     }
 
-    // The rows about the boards and signers that it names, but for the last.
+    // Rows 15 to 21, about the boards and signers that it names.
     #[tactic(auto, unfolding(crate::specs::Table::first_of))]
     fn check_state(&self, e: &Known) -> Result<(), Refusal>
         ensures { result ≡ first_of (state_rows limits self.now e.now) }
@@ -203,7 +218,7 @@ impl Bench {
         refuse_if(self.ballots_row(e), Refusal::FewBallots)
     }
 
-    // All rows but the last, which is about what comes of a turn; the event where none of them applies.
+    // Rows 10 to 21, all but row 22, which is about what comes of a turn; the event where none of them applies.
     pub(crate) fn check_rows(&self, e: Event) -> Result<Known, Refusal>
         ensures passed { IfOk result (λ k. (k ≡ e) × (e.kind ≡ turning → IsVoting limits self.now e.a) × (check_of limits self.now e ≡ first_of (turn_rows limits self.now e))) }
         ensures refused { IfErr result (λ refusal. check_of limits self.now e ≡ Err refusal) }
