@@ -6,14 +6,14 @@ ghost use Rattle.bench.specs.Benches.{board_at, IsVoting};
 ghost use Rattle.bench.specs.Events.{turning};
 ghost use Rattle.bench.specs.declared.answer.Refusal.TheVariants.{MustWait};
 ghost use Rattle.bench.specs.Table.{must_wait, turn_rows, first_of};
-ghost use Rattle.bench.specs.Effects.{with_board_at, with_signature, after_saying, after_turn, brought, after_hearing, effect_of, step_of};
+ghost use Rattle.bench.specs.Effects.{with_board_at, with_signature, after_saying, after_turn, brought, announced, after_hearing, effect_of, step_of};
 
 use crate::answer::Refusal;
 use crate::bench::Bench;
 use crate::event::{Event, Kind, Known};
 use delivery::{Delivered, Round};
 use signer::Identifier;
-use vote::{Board, Move, Statement};
+use vote::{Board, Decision, Move, Statement};
 
 // What comes of an event: the bench afterwards, and the answer. It is no `Result` of a bench, since a refused event leaves
 // one too.
@@ -31,6 +31,16 @@ impl Known {
         Statement {
             speaker: self.b,
             id: Identifier(self.id),
+            value: self.value,
+        }
+    }
+
+    // The decision that an announcement tells of.
+    pub(crate) fn announced(&self) -> Decision
+        ensures { result ≡ announced self.now }
+    {
+        Decision {
+            round: Round(self.id),
             value: self.value,
         }
     }
@@ -115,7 +125,7 @@ impl Bench {
             Kind::Deliver => self.hear(e.a, e.brought()),
             Kind::Announce => {
                 let n = self.n;
-                self.change(e.a, |board| board.announce(n, Round(e.id), e.value));
+                self.change(e.a, |board| board.announce(n, e.announced()));
             }
             Kind::Suspect => self.change(e.a, |board| board.suspect(e.b)),
             Kind::Trust => self.change(e.a, |board| board.trust(e.b)),

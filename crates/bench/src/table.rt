@@ -165,7 +165,7 @@ impl Bench {
     {
         e.kind == Kind::Announce
             && self.is_sound(e.b)
-            && !self.board(e.b).has_decided(Round(e.id), e.value)
+            && !self.board(e.b).has_decided(e.announced())
     }
 
     // Row 21: a accepts too few ballots for what is announced.
