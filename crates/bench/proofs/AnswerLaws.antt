@@ -1,5 +1,5 @@
 -- Laws of the answers to an event: 0 is that of an accepted one alone, and what then comes of the bench. Assumes nothing.
-use Prim.Native.Nat.{◌≤◌}
+use Prim.Native.Nat.{ℕ, ◌≤◌}
 use native.Mathlib.Omega.{arith}
 use borrow.Author.Tests.{eqb-true, eqb-false, ne_eqb}
 use mathlib.Core.Path.{◌≡◌, refl, ap, ◌∙◌}
@@ -129,6 +129,15 @@ refusal-within MustWait = inr (turn-within Waiting)
 pub answer-numbered : (a : Result (Unit {0}) Refusal) → numbered refusal_number a ≡ answer_number a
 unfolding answer_number
 answer-numbered a = refl
+
+-- an event that is played, known by what it was read from: what comes of it, and its answer's number
+module _ (L : Limits) (c c' : Bench) (e e' : Event) (a : Result (Unit {0}) Refusal) (m : ℕ) where
+  pub event_played : e ≡ e' → a ≡ (step_of L c e).answer → c' ≡ (step_of L c e).bench → m ≡ numbered refusal_number a
+      → (c' ≡ (step_of L c e').bench) × (m ≡ answer_number (step_of L c e').answer)
+  event_played read answered stepped number = (
+    stepped ∙ ap (λ (x : Event). (step_of L c x).bench) read,
+    number ∙ answer-numbered a ∙ ap answer_number (answered ∙ ap (λ (x : Event). (step_of L c x).answer) read),
+  )
 
 pub answer-within : (a : Result (Unit {0}) Refusal) → (answer_number a ≡ 0) ⊎ IsEventRow (answer_number a)
 unfolding answer_number

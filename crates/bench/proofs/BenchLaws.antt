@@ -1,13 +1,11 @@
 -- Laws of a bench's boards and signers, each read back after a change. Assumes nothing.
-use Rattle.signer.specs.FromOne.{nth}
-use mathlib.Core.List.{List}
-use Prim.Native.Nat.{ℕ, ◌≤◌, ◌+◌, ◌-◌, ◌<◌}
+use Prim.Native.Nat.{ℕ, ◌+◌, ◌-◌, ◌<◌}
 use mathlib.Core.Path.{◌≡◌, ap, ◌∙◌}
 use mathlib.Core.Bool.{true}
 use lib.ListN.{length, get_or}
 use lib.Dec.{eqb}
 use native.Mathlib.Omega.{arith}
-use Rattle.signer.proofs.FromOneLaws.{nth-none, nth-any, within_low, within-high, nth-set-same, nth-set-other, nth-replicate}
+use Rattle.signer.proofs.FromOneLaws.{nth-any, within_low, within-high, nth-set-same, nth-set-other, nth-replicate}
 use Rattle.signer.specs.Signer.{fresh_signer, sign}
 use Rattle.delivery.specs.Limits.{Limits}
 use Rattle.delivery.specs.Bus.{is_board}
@@ -18,9 +16,6 @@ use Rattle.vote.specs.declared.board.Board.{Board}
 use Rattle.bench.specs.Benches.{board_at, signer_at, holds}
 use Rattle.bench.specs.Effects.{with_board_at, with_signature}
 use Rattle.bench.specs.Setups.{bench_of}
-use Rattle.delivery.specs.declared.delivered.Delivered.{Delivered}
-use Rattle.delivery.proofs.DeliveredLaws.{heard-nothing}
-use Rattle.vote.proofs.BoardLaws.{fresh-delivered}
 use Rattle.bench.specs.declared.bench.Bench.{Bench}
 
 module _ (L : Limits) (c : Bench) where
@@ -69,20 +64,6 @@ holds-at L c s i k d h =
     ap
     (λ (b : Board). neg (eqb (heard L b.delivered s i) 0))
     (nth-any c.boards (k + 1) (fresh_board L) d (omega arith) (omega arith) ∙ ap (λ (j : ℕ). get_or c.boards j d) e)
-
--- where there is no board k, it has delivered nothing
-fresh-heard : (L : Limits) (s i : ℕ) → heard L (fresh_board L).delivered s i ≡ 0
-fresh-heard L s i = ap (λ (d : Delivered). heard L d s i) (fresh-delivered L) ∙ heard-nothing L s i
-
-module _ (L : Limits) (bs : List Board) (k s i : ℕ) where
-  none-heard : (1 ≤ k → length bs < k) → heard L (nth bs k (fresh_board L)).delivered s i ≡ 0
-  none-heard out = ap (λ (b : Board). heard L b.delivered s i) (nth-none bs k (fresh_board L) out) ∙ fresh-heard L s i
-
-  pub nobody-heard : k ≡ 0 → heard L (nth bs k (fresh_board L)).delivered s i ≡ 0
-  nobody-heard e = none-heard (λ l. omega (arith, e, l))
-
-  pub beyond-heard : length bs < k → heard L (nth bs k (fresh_board L)).delivered s i ≡ 0
-  beyond-heard h = none-heard (λ l. h)
 
 -- on a bench on which nothing has happened, every board and every signer is a fresh one
 pub board-fresh : (L : Limits) (n sound k : ℕ) → board_at L (bench_of L n sound) k ≡ fresh_board L

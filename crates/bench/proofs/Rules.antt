@@ -2,20 +2,17 @@
 use Rattle.bench.proofs.AnswerLaws.{step-answer, step-done, step-kept}
 use Rattle.bench.proofs.RunLaws.{after_next, after_none, answers-none, answers_next, history-written, length-answers, length-events, length-written, played-fits, played-room, sets-written}
 use Rattle.bench.proofs.SetupLaws.{limits-ground, marks-none, marks-next, marks-fail}
-use Rattle.bench.proofs.BenchLaws.{nobody-heard, beyond-heard}
 use Rattle.bench.proofs.TableLaws.{kind-passes, kind-stops, check-event, check-kind, check-state, check-turn, kind-known, not_same}
-use Rattle.bench.proofs.TurnLaws.{voting-high, voting-low, saying-board, turn-made, wait-neither, wait-refuses, wait-waits}
+use Rattle.bench.proofs.TurnLaws.{saying-board, turn-made, wait-neither, wait-refuses, wait-waits}
 use Rattle.delivery.proofs.SetLaws.{set-leave, set-none, set-take}
 use Rattle.delivery.proofs.TestLaws.{and-no-left, and-no-right, and-yes-left, neg-in, neg-no, or-no-left, or-no-right, or_left, or_no, or_right}
 use Rattle.std.proofs.lemmas.List.{get_or-take}
-use Rattle.signer.proofs.FromOneLaws.{nth_after, nth-any, nth-none, set_nth-index, set_nth-none, within-high, within-out, within_low}
+use Rattle.signer.proofs.FromOneLaws.{get_none, get_some, nth_after, nth-any, nth-none, set_nth-index, set_nth-none, within-high, within-out, within_low}
 
 -- tests joined
 pub ruleset rules_tests = (and-yes-left, and-no-left, and-no-right, or_left, or_right, or_no, or-no-left, or-no-right, neg-no, neg-in, not_same)
 
-pub ruleset rules_bench_heard_by = (nth-any, nobody-heard, beyond-heard)
-
-pub ruleset rules_table_voting = (voting-low, voting-high, nth-any)
+pub ruleset rules_bench_bench_ask = (get_some, get_none)
 
 pub ruleset rules_event_event_known = (kind-known, kind-passes, kind-stops)
 

@@ -1,21 +1,11 @@
 -- Laws of a turn on a bench: of a board that is voting, by what its rule has it do. Assumes nothing.
-use Prim.Native.Nat.{ℕ, ◌≤◌, ◌<◌}
-use native.Mathlib.Omega.{arith}
-use mathlib.Core.Path.{◌≡◌, refl, sym, ap, ◌∙◌}
-use mathlib.Core.Bool.{true, false, true≢false}
-use mathlib.Core.Logic.{inl, inr}
-use mathlib.Core.List.{List}
-use Rattle.std.proofs.lemmas.Bool.{cases_lt}
+use Prim.Native.Nat.{ℕ}
+use mathlib.Core.Path.{◌≡◌, refl, ap, ◌∙◌}
+use mathlib.Core.Bool.{true, false}
 use Rattle.delivery.proofs.TestLaws.{or_left, or_right, or_no}
-use Rattle.vote.proofs.BoardLaws.{fresh-status}
-use Rattle.vote.proofs.StatusLaws.{started-voting, idle-unstarted}
 use Rattle.vote.specs.declared.statement.Statement.{Statement}
-use lib.ListN.{length}
 use Rattle.std.specs.Prelude.{Option, None, Some}
-use Rattle.signer.specs.FromOne.{nth}
-use Rattle.signer.proofs.FromOneLaws.{nth-none}
 use Rattle.delivery.specs.Limits.{Limits}
-use Rattle.vote.specs.Boards.{fresh_board, is_started}
 use Rattle.vote.specs.Turns.{take, turn}
 use Rattle.vote.specs.declared.board.Board.{Board}
 use Rattle.vote.specs.declared.board.Status.TheVariants.{Voting}
@@ -70,17 +60,3 @@ pub saying-board : (L : Limits) (c : Bench) (k : ℕ) (x : Option Statement) (j 
 unfolding board_at after_saying with_owed with_signature
 saying-board L c k None j = refl
 saying-board L c k (Some s) j = refl
-
--- a board that is voting is one of the list's: a fresh one is not voting
-voting-there : (L : Limits) (bs : List Board) (k : ℕ) → (nth bs k (fresh_board L)).status ≡ Voting → (1 ≤ k → length bs < k) → ⊥
-voting-there L bs k v out =
-    true≢false
-    (sym started-voting
-    ∙ ap is_started (sym v ∙ ap (λ (b : Board). b.status) (nth-none bs k (fresh_board L) out) ∙ fresh-status L)
-    ∙ idle-unstarted)
-
-pub voting-low : (L : Limits) (bs : List Board) (k : ℕ) → (nth bs k (fresh_board L)).status ≡ Voting → 1 ≤ k
-voting-low L bs k v = elim (cases_lt 0 k) [ inl l ↦ omega (arith, l) | inr h ↦ absurd (voting-there L bs k v (λ l. omega (arith, l, h))) ]
-
-pub voting-high : (L : Limits) (bs : List Board) (k : ℕ) → (nth bs k (fresh_board L)).status ≡ Voting → k ≤ length bs
-voting-high L bs k v = elim (cases_lt (length bs) k) [ inl l ↦ absurd (voting-there L bs k v (λ _. l)) | inr h ↦ omega (arith, h) ]

@@ -1,4 +1,5 @@
 ghost use Rattle.std.specs.Prelude.{◌≡◌};
+ghost use Rattle.std.specs.Fn.{FnOnceReturnsAt};
 ghost use Rattle.delivery.specs.Limits.{limits};
 ghost use Rattle.signer.specs.FromOne.{nth};
 ghost use Rattle.delivery.specs.Delivered.{heard};
@@ -21,21 +22,6 @@ pub struct Bench {
     pub owed: Owed,
 }
 
-// What board k of a list has delivered from a speaker under an identifier, as a log's entry; nothing where there is no
-// board k.
-#[tactic(auto, using(crate::proofs::Rules::rules_bench_heard_by))]
-fn heard_by(boards: &[Board], k: u8, speaker: u8, id: Identifier) -> u32
-    ensures { result ≡ heard limits (nth boards.now k (fresh_board limits)).delivered speaker id.0 }
-{
-    if k == 0 {
-        return 0;
-    }
-    if k as usize > boards.len() {
-        return 0;
-    }
-    boards[k as usize - 1].delivered.entry(speaker, id)
-}
-
 impl Bench {
     // The most boards that a bench has.
     pub const BOARDS: u8 = Delivered::BOARDS;
@@ -55,7 +41,8 @@ impl Bench {
         from_one::nth(&self.boards, k, Board::fresh())
     }
 
-    // Board k's signer; a fresh one where the number is no board's.
+    // Board k's signer; a fresh one where the number is no board's. It is copied, also where one field of it is read: it is a
+    // seventh of a board, and asking it as a board is asked would be a twin.
     #[tactic(auto, unfolding(crate::specs::Benches::signer_at))]
     pub fn signer(&self, k: u8) -> Signer
         ensures { result ≡ signer_at limits self.now k }
@@ -63,13 +50,24 @@ impl Bench {
         from_one::nth(&self.signers, k, Signer::fresh())
     }
 
+    // Asks board k, where it stands; a fresh one where the number is no board's.
+    #[tactic(auto, using(crate::proofs::Rules::rules_bench_bench_ask), unfolding(crate::specs::Benches::board_at))]
+    pub(crate) fn ask<R, F: FnOnce(&Board) -> R>(&self, k: u8, question: F) -> R
+        requires { F.IsAlwaysCallable question }
+        ensures { FnOnceReturnsAt F.FnOnce question (board_at limits self.now k) result }
+    {
+        match from_one::get(&self.boards, k) {
+            Some(board) => question(board),
+            None => question(&Board::fresh()),
+        }
+    }
+
     // What board k has delivered from a speaker under an identifier, as a log's entry; these two stay apart here and below, as
     // in `Delivered`.
-    #[tactic(auto, unfolding(crate::specs::Benches::board_at))]
     pub fn delivered(&self, k: u8, speaker: u8, id: Identifier) -> u32
         ensures { result ≡ heard_by limits self.now k speaker id.0 }
     {
-        heard_by(&self.boards, k, speaker, id)
+        self.ask(k, |board| board.delivered.entry(speaker, id))
     }
 
     // What board k's signer has signed under an identifier, as a log's entry.

@@ -50,8 +50,8 @@ fn plain(letter: Letter, round: Round, value: u16) -> Shown
 
 // How a sound board stands.
 #[tactic(auto, unfolding(crate::specs::Shows::standing))]
-fn standing(board: Board) -> Shown
-    ensures { result ≡ standing board.position board.status }
+fn standing(board: &Board) -> Shown
+    ensures { result ≡ standing board.now.position board.now.status }
 {
     let position = board.position;
     match board.status {
@@ -74,6 +74,6 @@ impl Bench {
         if !self.is_sound(k) {
             return plain(Letter::Faulty, Round(0), 0);
         }
-        standing(self.board(k))
+        self.ask(k, |board| standing(board))
     }
 }

@@ -80,15 +80,6 @@ fn refuses(signer: &Signer, said: Option<Statement>) -> bool
     said.is_some_and(|s| !signer.grants(s.id))
 }
 
-// Board k of a list, which is voting, and so one of the list's.
-#[tactic(auto, using(crate::proofs::Rules::rules_table_voting))]
-fn voting(boards: &[Board], k: u8) -> &Board
-    requires { (nth boards.now k (fresh_board limits)).status ≡ Voting }
-    ensures { result.now ≡ nth boards.now k (fresh_board limits) }
-{
-    &boards[k as usize - 1]
-}
-
 // What it asks of the bench.
 impl Bench {
     // Row 11: a, or b where it is used, is no board of the bench.
@@ -116,8 +107,8 @@ impl Bench {
         ensures { result ≡ start_row limits self.now e.now }
     {
         match e.kind {
-            Kind::Propose => self.board(e.a).is_started(),
-            Kind::Turn | Kind::Announce => !self.board(e.a).is_started(),
+            Kind::Propose => self.ask(e.a, |board| board.is_started()),
+            Kind::Turn | Kind::Announce => !self.ask(e.a, |board| board.is_started()),
             _ => false,
         }
     }
@@ -128,8 +119,8 @@ impl Bench {
         ensures { result ≡ end_row limits self.now e.now }
     {
         match e.kind {
-            Kind::Turn => self.board(e.a).is_ended(),
-            Kind::Announce => self.board(e.a).is_decided(),
+            Kind::Turn => self.ask(e.a, |board| board.is_ended()),
+            Kind::Announce => self.ask(e.a, |board| board.is_decided()),
             _ => false,
         }
     }
@@ -165,7 +156,7 @@ impl Bench {
     {
         e.kind == Kind::Announce
             && self.is_sound(e.b)
-            && !self.board(e.b).has_decided(e.announced())
+            && !self.ask(e.b, |board| board.has_decided(e.announced()))
     }
 
     // Row 21: a accepts too few ballots for what is announced.
@@ -174,7 +165,8 @@ impl Bench {
         ensures { result ≡ ballots_row limits self.now e.now }
     {
         e.kind == Kind::Announce
-            && self.board(e.a).tally(self.n, Round(e.id), e.value) < bus::quorum(self.n)
+            && self.ask(e.a, |board| board.tally(self.n, Round(e.id), e.value))
+                < bus::quorum(self.n)
     }
 
     // Row 22, of board k, which is voting: it waits, or its signer refuses what it says. Else what it does and says in its
@@ -184,9 +176,9 @@ impl Bench {
         requires { IsVoting limits self.now k }
         ensures { result ≡ (if must_wait limits self.now k then Err MustWait else Ok (move_at limits self.now k, said_at limits self.now k)) }
     {
-        let board = voting(&self.boards, k);
-        let step = board.next_move(self.n, k);
-        let said = step.said(k, board.position.round);
+        let step = self.ask(k, |board| board.next_move(self.n, k));
+        let round = self.ask(k, |board| board.position.round);
+        let said = step.said(k, round);
         if step == Move::Waits || refuses(&self.signer(k), said) {
             return Err(Refusal::MustWait);
         }

@@ -13,7 +13,7 @@ use Rattle.bench.specs.Effects.{step_of}
 use Rattle.bench.specs.Runs.{after, answers_to, events_in}
 use Rattle.bench.specs.declared.bench.Bench.{Bench}
 use Rattle.bench.specs.declared.event.Event.{Event}
-use Rattle.bench.proofs.AnswerLaws.{answer-numbered}
+use Rattle.bench.proofs.AnswerLaws.{event_played}
 use Rattle.bench.proofs.RunLaws.{after_next, answers_next}
 use Rattle.bench.proofs.bench.Bench.run.Goals as goal
 
@@ -27,8 +27,9 @@ loop-k-preserved c =
     let rest : ℕ → List Event = λ (m : ℕ). events_in (n - (l.k + 1)) (drop m bs) in
     let moved : event_bytes * (l.k + 1) ≡ at + event_bytes = omega arith in
     let event : c.read-event.result ≡ e' = c.read-event.ensures ∙ ap event_from (part_to_end bs at) in
-    let step : c.step.new.self ≡ (step_of limits l.self e').bench = c.step.ensures.bench ∙ ap (λ (y : Event). (step_of limits l.self y).bench) event in
-    let answer : c.number_of.result ≡ answer_number (step_of limits l.self e').answer = c.number_of.ensures ∙ answer-numbered _ ∙ ap answer_number (c.step.ensures.answer ∙ ap (λ (y : Event). (step_of limits l.self y).answer) event) in
+    let came = event_played limits l.self _ _ e' _ _ event c.step.ensures.answer c.step.ensures.bench c.number_of.ensures in
+    let step : c.step.new.self ≡ (step_of limits l.self e').bench = came.0 in
+    let answer : c.number_of.result ≡ answer_number (step_of limits l.self e').answer = came.1 in
     record {
       room = length-set l.answers l.k c.number_of.result ∙ l.invariant.room;
       bench =
