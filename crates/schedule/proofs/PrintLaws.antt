@@ -12,6 +12,8 @@ use mathlib.Core.List.{List, [], ◌∷◌, ◌++◌, append_assoc}
 use lib.Dec.{leb, ltb}
 use lib.ListN.{length, take, get_or, set, length-append}
 use Rattle.std.proofs.lemmas.List.{take_more}
+use Rattle.std.proofs.lemmas.Fmt.{decimal_from_appends, length-decimal-le, length-decimal-le_succ}
+use Rattle.std.specs.Fmt as fmt
 use lib.Seq.{sets, length-sets}
 use Rattle.std.specs.Prelude.{Result, Ok, Err}
 use Rattle.signer.proofs.ConditionalLaws.{if-elim, if-true, if-false}
@@ -87,18 +89,14 @@ decimal-more m h =
     if-false (ltb m 10) _ _ (le-ltb m 10 h)
     ∙ ap (λ (l : List ℕ). l ++ digit (m % 10) ∷ []) (fuel m (suc (m / 10)) (m / 10) (omega arith) (omega arith))
 
--- so it is longer by one
-pub length_more : (m : ℕ) → 10 ≤ m → length (decimal m) ≡ length (decimal (m / 10)) + 1
-length_more m h = ap length (decimal-more m h) ∙ length-append (decimal (m / 10)) (digit (m % 10) ∷ [])
+-- so it is what std has for a number
+pub decimal-std : (m : ℕ) → m < 2 ^ 64 → fmt.decimal m ≡ decimal m
+decimal-std m h =
+    sym (decimal_from_appends (λ k n. decimal n) (record { one = λ k n. decimal-one n; more = λ k n. decimal-more n }) (m + 1) m h (length-decimal-le_succ m h))
 
 -- a number below a power of ten has at most as many digits as the power has zeros
-pub digits-within : (d m : ℕ) → m < 10 ^ suc d → length (decimal m) ≤ suc d
-digits-within zero m h = omega (arith, ap length (decimal-one m h))
-digits-within (suc d) m h = go (dec_lt m 10) (λ b. digits-within d (m / 10) b)
-  where
-    go : Dec (m < 10) → (m / 10 < 10 ^ suc d → length (decimal (m / 10)) ≤ suc d) → length (decimal m) ≤ suc (suc d)
-    go (yes b) f = omega (arith, ap length (decimal-one m b))
-    go (no b) f = omega (arith, length_more m (omega (arith, b)), f (omega (arith, h, pow-suc 10 (suc d))))
+pub digits-within : (d m : ℕ) → m < 10 ^ suc d → m < 2 ^ 64 → length (decimal m) ≤ suc d
+digits-within d m h f = omega (arith, ap length (decimal-std m f), length-decimal-le (suc d) m (omega arith) h f)
 
 -- how long an event's line is, and a board's
 pub event-length : (k a : ℕ) → length (event_line k a) ≡ length (decimal k) + length (decimal a) + 2
@@ -112,7 +110,7 @@ board-length k s = simp length-append (omega arith)
 
 -- and that it is within its most bytes
 pub event-within : (k a : ℕ) → k ≤ most_events → Fits w8 a → length (event_line k a) ≤ event_line_bytes
-event-within k a h f = omega (arith, event-length k a, digits-within 3 k (omega arith), digits-within 2 a (omega arith))
+event-within k a h f = omega (arith, event-length k a, digits-within 3 k (omega arith) (omega arith), digits-within 2 a (omega arith) (omega arith))
 
 pub board-within : (k : ℕ) (s : Shown) → k ≤ limits.boards → Fits w8 s.round.0 → Fits w16 s.value
     → length (board_line k s) ≤ board_line_bytes
@@ -120,15 +118,15 @@ board-within k s h f g =
     omega (
       arith,
       board-length k s,
-      digits-within 0 k (omega arith),
-      digits-within 2 s.round.0 (omega arith),
-      digits-within 4 s.value (omega arith),
+      digits-within 0 k (omega arith) (omega arith),
+      digits-within 2 s.round.0 (omega arith) (omega arith),
+      digits-within 4 s.value (omega arith) (omega arith),
     )
 
 -- a refused file's line is within the longest report
 pub refused-within : (f : Fault) → length (refused_line f) ≤ longest_print limits
 unfolding refused_line
-refused-within f = simp length-append (omega (arith, digits-within 0 (fault_number f) (omega (arith, (fault-row f).1))))
+refused-within f = simp length-append (omega (arith, digits-within 0 (fault_number f) (omega (arith, (fault-row f).1)) (omega (arith, (fault-row f).1))))
 
 -- before any part nothing is put, and after k parts one part more makes k + 1
 pub parts_none : {buf : List ℕ} {at : ℕ} (f : ℕ → List ℕ) → PutAt (parts_to 0 f) buf at buf at

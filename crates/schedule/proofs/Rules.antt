@@ -1,6 +1,6 @@
 -- For each function, the laws that its proof goes by.
 use Rattle.schedule.proofs.FileLaws.{bus-none, bus-some, section-within}
-use Rattle.schedule.proofs.PrintLaws.{board-within, decimal-more, decimal-one, event-within, length_more, put-length, put_then, refused-within, report-short}
+use Rattle.schedule.proofs.PrintLaws.{board-within, decimal-std, event-within, refused-within, report-short}
 use Rattle.schedule.proofs.SectionLaws.{marks-cut, marks-start, marks-wrong, section-cut, section-many, section-short, section-there}
 use Rattle.signer.proofs.ConditionalLaws.{if-false}
 use Rattle.signer.proofs.FromOneLaws.{within-high}
@@ -19,4 +19,4 @@ pub ruleset rules_report_report_write = (report-short)
 
 pub ruleset rules_section_section_read = (section-cut, section-many, section-short, section-there)
 
-pub ruleset rules_text_number = (decimal-one, decimal-more, length_more, put_then, put-length)
+pub ruleset rules_text_number = (decimal-std)

@@ -4,6 +4,7 @@ ghost use Rattle.schedule.specs.Prints.{decimal, event_line, board_line, refused
 
 use crate::fault::Fault;
 use bench::Shown;
+use itoa::Buffer;
 use vote::Numbered;
 
 // A text that is put into a buffer from its start on, as far as the buffer goes, and how long it is so far. So in an empty
@@ -28,17 +29,14 @@ impl Text<'_> {
         self.length += 1;
     }
 
-    // A number in decimal. Its digits are put by hand: `format!` needs a heap, and `write!` may fail.
+    // A number in decimal.
     #[tactic(auto, using(crate::proofs::Rules::rules_text_number))]
     pub(crate) fn number(&mut self, m: u16)
         requires { self.old.length + length (decimal m) ≤ longest_print limits }
         ensures bytes { PutAt (decimal m) self.old.out.now self.old.length self.new.out.now self.new.length }
         ensures same { self.new.out.ghost_name ≡ self.old.out.ghost_name }
     {
-        if m >= 10 {
-            self.number(m / 10);
-        }
-        self.put(b'0' + (m % 10) as u8);
+        self.word(Buffer::new().format(m).as_bytes());
     }
 
     // A text as it stands.
