@@ -59,8 +59,8 @@ refused-traced L bs w t = ap (traced_from L) (file-fault L bs w t)
 
 -- A file that was read: the row of its fresh bench and those of its events are its trace.
 module _ (L : Limits) (bs : List ℕ) (s : Schedule) (h : FileRead L bs s) where
-  pub trace-played : row L 0 (fresh_bench L s.n s.marks)
-      ++ rows_of L (fresh_bench L s.n s.marks) (events_in s.count (drop s.start bs))
+  pub trace-played : row L 0 (fresh_bench L s.bus.n s.bus.marks)
+      ++ rows_of L (fresh_bench L s.bus.n s.bus.marks) (events_in s.count (drop s.start bs))
       ≡ traced L bs
   unfolding traced_from
   trace-played =
@@ -73,7 +73,7 @@ module _ (L : Limits) (bs : List ℕ) (s : Schedule) (h : FileRead L bs s) where
 pub length-traced : (bs : List ℕ) (s : Schedule) → FileRead limits bs s
     → length (traced limits bs) ≡ row_size limits + row_size limits * s.count
 length-traced bs s h =
-    let c = fresh_bench limits s.n s.marks in
+    let c = fresh_bench limits s.bus.n s.bus.marks in
     let es = events_in s.count (drop s.start bs) in
     ap length (sym (trace-played limits bs s h))
     ∙ length-append (row limits 0 c) (rows_of limits c es)

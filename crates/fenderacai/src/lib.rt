@@ -20,10 +20,7 @@ pub extern "C" fn fenderacai_report(file: &[u8], out: &mut [u8]) -> usize
     ensures length { result ≡ length (printed limits file.now) }
     ensures buffer { out.new ≡ buffer_from (printed limits file.now) out.old }
 {
-    match Report::write(file, out) {
-        Ok(length) => length,
-        Err(short) => short.needed,
-    }
+    Report::write(file, out).unwrap_or_else(|short| short.needed)
 }
 
 // Writes the rows of a file to the start of a buffer, and returns how many words they are. The rest of the buffer stays;

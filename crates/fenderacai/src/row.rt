@@ -21,7 +21,8 @@ pub(crate) const WORDS: usize = FRONT_WORDS
     + Bench::BOARDS as usize * TABLE_WORDS
     + TABLE_WORDS;
 
-// Words that are put into a buffer from its start on, and how many they are so far.
+// Words that are put into a buffer from its start on, and how many they are so far. No `Text` of crate `schedule`: that is
+// private there, holds bytes, and goes on counting past the buffer's end, where this asks for room first.
 #[derive(Drop)]
 pub(crate) struct Words<'a> {
     pub(crate) out: &'a mut [u32],
@@ -41,7 +42,7 @@ fn status_number(status: Status) -> u32
     }
 }
 
-// What a board decided; 0 in round 0 if it has not.
+// What a board decided; 0 in round 0 if it has not. No `Option`, since a row has the same words for every board.
 #[tactic(auto, unfolding(crate::specs::Rows::decision))]
 fn decision(status: Status) -> Decision
     ensures { result ≡ decision status }

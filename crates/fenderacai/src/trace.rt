@@ -14,15 +14,15 @@ use vote::number_of;
 impl Words<'_> {
     // Plays so many events, and puts a row for each.
     #[tactic(auto, using(crate::proofs::Rules::rules_row_words_rows))]
-    fn rows(&mut self, mut bench: Bench, count: usize, events: &[u8])
+    fn rows(&mut self, bench: &mut Bench, count: usize, events: &[u8])
         requires events { event_bytes * count ≤ length events.now }
         requires room { self.old.length + row_size limits * count ≤ length self.old.out.now }
-        ensures words { PutAt (rows_of limits bench (events_in count events.now)) self.old.out.now self.old.length self.new.out.now self.new.length }
+        ensures words { PutAt (rows_of limits bench.old (events_in count events.now)) self.old.out.now self.old.length self.new.out.now self.new.length }
         ensures same { self.new.out.ghost_name ≡ self.old.out.ghost_name }
     {
         for k in 0..count {
             let answer = bench.apply(Event::read(&events[Event::BYTES * k..]));
-            self.row(number_of(answer), &bench);
+            self.row(number_of(answer), bench);
         }
     }
 }
@@ -33,23 +33,16 @@ pub(crate) fn write(file: &[u8], out: &mut [u32]) -> usize
     ensures length { result ≡ length (traced limits file.now) }
     ensures buffer { out.new ≡ buffer_from (traced limits file.now) out.old }
 {
-    let Ok(schedule) = Schedule::read(file) else {
+    let Ok(Schedule { bus, count, start }) = Schedule::read(file) else {
         return 0;
     };
-    let Schedule {
-        n,
-        marks,
-        count,
-        start,
-    } = schedule;
     let length = row::WORDS + row::WORDS * count as usize;
     if length > out.len() {
         return length;
     }
-    let fresh = Bench::fresh(n, marks);
-    let bench = fresh.bench;
+    let mut bench = Bench::fresh(bus.n, bus.marks).bench;
     let mut words = Words { out, length: 0 };
     words.row(0, &bench);
-    words.rows(bench, count as usize, &file[start..]);
+    words.rows(&mut bench, count as usize, &file[start..]);
     words.length
 }

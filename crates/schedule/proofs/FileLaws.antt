@@ -27,7 +27,7 @@ use Rattle.schedule.specs.Files.{
   file_due,
 }
 use Rattle.schedule.specs.Layouts.{none, more, Bytes}
-use Rattle.schedule.specs.Readings.{padded, bus_from, bus_of, section_from, section_of, schedule_from, schedule_of}
+use Rattle.schedule.specs.Readings.{bus_in, bus_from, bus_of, section_from, section_of, schedule_from, schedule_of}
 use Rattle.schedule.specs.declared.fault.Fault.{Fault}
 use Rattle.schedule.specs.declared.fault.Fault.TheVariants.{EndsEarly, NoBus, LeftOver}
 use Rattle.schedule.specs.declared.bus.Bus.{Bus}
@@ -58,7 +58,7 @@ pub record BusRead (L : Limits) (bs : List ℕ) (b : Bus) : Type 0 where
   pub marks : List ℕ
   pub rest : List ℕ
   pub due : bus_due L bs ≡ got marks rest
-  pub read : b ≡ record { n = length marks; marks = padded L marks }
+  pub read : b ≡ bus_in L marks
   pub size : length bs ≡ 1 + b.n + length rest
   pub part : drop (1 + b.n) bs ≡ rest
   pub bytes : Bytes rest
@@ -71,7 +71,7 @@ bus-taken L bs b u t = go (bus_due L bs) refl t
     go (Err w) g a = let z : ◌≡◌ {A = ℕ} 0 1 = cc in absurd (omega arith)
     go (Ok (ms, cs)) g a =
         let whole : bs ≡ length ms ∷ ms ++ cs = (bus-laid L bs ms cs g).0 u in
-        let is : b ≡ record { n = length ms; marks = padded L ms } = cc in
+        let is : b ≡ bus_in L ms = cc in
         let n : 1 + b.n ≡ length (length ms ∷ ms) = ap (λ (x : Bus). 1 + x.n) is ∙ omega arith in
         record {
           marks = ms;
@@ -161,8 +161,8 @@ module _ (L : Limits) (bs ms cs : List ℕ) (e : bus_due L bs ≡ got ms cs) whe
     file-there h = ends ∙ left-none (record { marks = ms; events = es }) ds h
 
 -- a file of two sections that were read
-abbrev made : Bus → ℕ → Result Schedule Fault
-made b k = Ok (record { n = b.n; marks = b.marks; count = k; start = 1 + b.n + count_bytes })
+abbrev pub made : Bus → ℕ → Result Schedule Fault
+made b k = Ok (record { bus = b; count = k; start = 1 + b.n + count_bytes })
 
 -- So it is with the calls that read a file: a fault of the first section is the file's,
 pub schedule-front : (L : Limits) (bs : List ℕ) (w : Fault) → bus_of L bs ≡ Err w → schedule_of L bs ≡ Err w
@@ -200,10 +200,10 @@ module _ (L : Limits) (bs : List ℕ) (b : Bus) (u : (i : ℕ) → Fits w8 (get_
         ap (schedule_from L) (file-over L bs front.marks front.rest front.due back.events back.rest back.due over)
 
     pub schedule-there : length bs - (1 + b.n + count_bytes) ≤ event_bytes * s.count
-        → schedule_of L bs ≡ Ok (record { n = b.n; marks = b.marks; count = s.count; start = 1 + b.n + count_bytes })
+        → schedule_of L bs ≡ made b s.count
     unfolding schedule_from
     schedule-there h =
         let none : length back.rest ≡ 0 = omega (arith, front.size, back.size, h) in
         ap (schedule_from L) (file-there L bs front.marks front.rest front.due back.events back.rest back.due none)
-        ∙ ap (made (record { n = length front.marks; marks = padded L front.marks })) back.count
+        ∙ ap (made (bus_in L front.marks)) back.count
         ∙ sym (ap (λ (x : Bus). made x s.count) front.read)

@@ -98,11 +98,11 @@ file-fault L bs w t = go (file_due L bs) t
 
 -- A file that was read: n, the marks and the count are its own, and within what there can be.
 module _ (L : Limits) (bs : List ℕ) (s : Schedule) (h : FileRead L bs s) where
-  n-own : s.n ≡ length h.file.marks
-  n-own = ap (λ (x : Schedule). x.n) h.read
+  n-own : s.bus.n ≡ length h.file.marks
+  n-own = ap (λ (x : Schedule). x.bus.n) h.read
 
-  marks-own : s.marks ≡ padded L h.file.marks
-  marks-own = ap (λ (x : Schedule). x.marks) h.read
+  marks-own : s.bus.marks ≡ padded L h.file.marks
+  marks-own = ap (λ (x : Schedule). x.bus.marks) h.read
 
   count-own : s.count ≡ length h.file.events
   count-own = ap (λ (x : Schedule). x.count) h.read
@@ -110,14 +110,14 @@ module _ (L : Limits) (bs : List ℕ) (s : Schedule) (h : FileRead L bs s) where
   start-own : s.start ≡ 1 + length h.file.marks + count_bytes
   start-own = ap (λ (x : Schedule). x.start) h.read
 
-  pub few-boards : s.n ≤ L.boards
+  pub few-boards : s.bus.n ≤ L.boards
   few-boards = omega (arith, n-own, within-high L.boards (length h.file.marks) h.holds.boards)
 
   pub few-events : s.count ≤ most_events
   few-events = omega (arith, count-own, h.holds.few)
 
   -- the events stand at the end of the file
-  pub start-within : s.start ≤ length bs
+  start-within : s.start ≤ length bs
   unfolding laid
   start-within =
       let ms = h.file.marks in
@@ -162,9 +162,9 @@ module _ (L : Limits) (bs : List ℕ) (s : Schedule) (h : FileRead L bs s) where
   handed-events = ap (events_in (length h.file.events)) handed-all ∙ events-laid h.file.events
 
   -- so the bench begins as the file's, and each event of it is played
-  pub begun : fresh_bench L s.n s.marks ≡ first_bench L h.file
+  pub begun : fresh_bench L s.bus.n s.bus.marks ≡ first_bench L h.file
   begun =
-      ap (λ (m : ℕ). fresh_bench L m s.marks) n-own
+      ap (λ (m : ℕ). fresh_bench L m s.bus.marks) n-own
       ∙ ap (fresh_bench L (length h.file.marks)) marks-own
       ∙ fresh-alike (padded L h.file.marks) h.file.marks (padded-nth L h.file.marks) L (length h.file.marks)
 
@@ -178,35 +178,39 @@ module _ (L : Limits) (bs : List ℕ) (s : Schedule) (h : FileRead L bs s) where
     abbrev answers : List ℕ
     answers = answers_to L (first_bench L h.file) h.file.events
 
-    bench-after : (played_of L s.n s.marks handed (length buf)).bench ≡ bench
+    bench-after : (played_of L s.bus.n s.bus.marks handed (length buf)).bench ≡ bench
     bench-after =
-        played-bench L s.n s.marks (length h.file.events) handed handed-size (length buf) room
+        played-bench L s.bus.n s.bus.marks (length h.file.events) handed handed-size (length buf) room
         ∙ ap (λ (b : Bench). after L b (events_in (length h.file.events) handed)) begun
         ∙ ap (after L (first_bench L h.file)) handed-events
 
-    answers-after : answers_after L s.n s.marks handed buf ≡ written answers buf
+    answers-after : answers_after L s.bus.n s.bus.marks handed buf ≡ written answers buf
     answers-after =
-        played-answers L s.n s.marks (length h.file.events) handed handed-size buf room
+        played-answers L s.bus.n s.bus.marks (length h.file.events) handed handed-size buf room
         ∙ ap (λ (b : Bench). written (answers_to L b (events_in (length h.file.events) handed)) buf) begun
         ∙ ap (λ (es : List Event). written (answers_to L (first_bench L h.file) es) buf) handed-events
 
     -- and the lines of its answers and of its boards are the file's report
-    pub print-played : event_lines s.count (answers_after L s.n s.marks handed buf)
-        ++ board_lines L s.n (played_of L s.n s.marks handed (length buf)).bench
+    pub print-played : event_lines s.count (answers_after L s.bus.n s.bus.marks handed buf)
+        ++ board_lines L s.bus.n (played_of L s.bus.n s.bus.marks handed (length buf)).bench
         ≡ printed L bs
     unfolding printed_from
     print-played =
-        ap (λ (xs : List ℕ). xs ++ board_lines L s.n (played_of L s.n s.marks handed (length buf)).bench) events
+        ap (λ (xs : List ℕ). xs ++ board_lines L s.bus.n (played_of L s.bus.n s.bus.marks handed (length buf)).bench) events
         ∙ ap (λ (xs : List ℕ). event_lines (length h.file.events) answers ++ xs) boards
         ∙ sym (ap (printed_from L) h.due)
       where
-        events : event_lines s.count (answers_after L s.n s.marks handed buf) ≡ event_lines (length h.file.events) answers
+        events : event_lines s.count (answers_after L s.bus.n s.bus.marks handed buf) ≡ event_lines (length h.file.events) answers
         events =
-            ap (λ (m : ℕ). event_lines m (answers_after L s.n s.marks handed buf)) count-own
+            ap (λ (m : ℕ). event_lines m (answers_after L s.bus.n s.bus.marks handed buf)) count-own
             ∙ ap (event_lines (length h.file.events)) answers-after
             ∙ parts_same (length h.file.events) _ _ (λ k l g. ap (event_line k) (nth-written answers buf k l (omega (arith, length-answers L (first_bench L h.file) h.file.events))))
 
-        boards : board_lines L s.n (played_of L s.n s.marks handed (length buf)).bench ≡ board_lines L (length h.file.marks) bench
+        boards : board_lines L s.bus.n (played_of L s.bus.n s.bus.marks handed (length buf)).bench ≡ board_lines L (length h.file.marks) bench
         boards =
-            ap (λ (b : Bench). board_lines L s.n b) bench-after
+            ap (λ (b : Bench). board_lines L s.bus.n b) bench-after
             ∙ ap (λ (m : ℕ). board_lines L m bench) n-own
+
+-- the events of a file that was read begin within it
+pub start-taken : (L : Limits) (bs : List ℕ) (s : Schedule) → ((i : ℕ) → Fits w8 (get_or bs i 0)) → schedule_of L bs ≡ Ok s → s.start ≤ length bs
+start-taken L bs s u t = start-within L bs s (file-taken L bs s u t)

@@ -1,4 +1,6 @@
 -- For each function, the laws that its proof goes by.
+use Rattle.schedule.proofs.ExampleNumbers.{no-bus, no-mark}
+use Rattle.schedule.proofs.PlayLaws.{start-taken}
 use Rattle.schedule.proofs.FileLaws.{bus-none, bus-some, section-within}
 use Rattle.schedule.proofs.PrintLaws.{board-within, decimal-std, event-within, refused-within, report-short}
 use Rattle.schedule.proofs.SectionLaws.{marks-cut, marks-start, marks-wrong, section-cut, section-many, section-short, section-there}
@@ -10,6 +12,10 @@ pub ruleset rules_bus_bus_read = (if-false, within-high, bus-none, bus-some)
 pub ruleset rules_bus_bus_read_marks = (marks-start, marks-cut, marks-wrong)
 
 pub ruleset rules_file_schedule_read = (section-within)
+
+pub ruleset rules_fault = (no-bus, no-mark)
+
+pub ruleset rules_report_report_of = (start-taken)
 
 pub ruleset rules_report_report_lines = (event-within, board-within)
 

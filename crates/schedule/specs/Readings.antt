@@ -13,8 +13,11 @@ abbrev pub padded : Limits → List ℕ → List ℕ
 padded L ms = ms ++ replicate (L.boards - length ms) 0
 
 -- the first section: n and the marks
+abbrev pub bus_in : Limits → List ℕ → Bus
+bus_in L ms = record { n = length ms; marks = padded L ms }
+
 unfoldable pub bus_from : Limits → Reading (List ℕ) → Result Bus Fault
-bus_from L (Ok (ms, rest)) = Ok (record { n = length ms; marks = padded L ms })
+bus_from L (Ok (ms, rest)) = Ok (bus_in L ms)
 bus_from L (Err f) = Err f
 
 abbrev pub bus_of : Limits → List ℕ → Result Bus Fault
@@ -31,12 +34,7 @@ section_of bs = section_from (section_due bs)
 -- a whole file: its boards, how many events it has, and where in the file they begin
 abbrev pub schedule_in : Limits → Contents → Schedule
 schedule_in L f =
-    record {
-      n = length f.marks;
-      marks = padded L f.marks;
-      count = length f.events;
-      start = 1 + length f.marks + count_bytes;
-    }
+    record { bus = bus_in L f.marks; count = length f.events; start = 1 + length f.marks + count_bytes }
 
 unfoldable pub schedule_from : Limits → Reading Contents → Result Schedule Fault
 schedule_from L (Ok (f, rest)) = Ok (schedule_in L f)

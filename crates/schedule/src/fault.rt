@@ -7,25 +7,18 @@ use vote::Numbered;
 // counts too many events, or goes on after the last of them.
 #[derive(Clone, Copy, Debug, PartialEq, Eq)]
 pub enum Fault {
-    EndsEarly,
-    NoBus,
-    NoMark,
-    TooMany,
-    LeftOver,
+    EndsEarly = 1,
+    NoBus = SetupFault::NoBus as isize,
+    NoMark = SetupFault::NoMark as isize,
+    TooMany = 4,
+    LeftOver = 5,
 }
 
 impl Numbered for Fault {
     ghost number_in_table = { fault_number };
 
-    // Two of the numbers are said by the bench, so the enum has none of its own.
-    #[tactic(auto, unfolding(crate::specs::Files::fault_number))]
+    #[tactic(auto, using(crate::proofs::Rules::rules_fault), unfolding(crate::specs::Files::fault_number))]
     fn number(self) -> u8 {
-        match self {
-            Fault::EndsEarly => 1,
-            Fault::NoBus => SetupFault::NoBus.number(),
-            Fault::NoMark => SetupFault::NoMark.number(),
-            Fault::TooMany => 4,
-            Fault::LeftOver => 5,
-        }
+        self as u8
     }
 }

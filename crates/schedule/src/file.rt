@@ -10,8 +10,7 @@ use bench::{Bench, Event};
 // A file that was read: its boards with their marks, how many events it has, and where in the file they begin.
 #[derive(Clone, Copy, Debug, PartialEq, Eq)]
 pub struct Schedule {
-    pub n: u8,
-    pub marks: [u8; Bench::BOARDS as usize],
+    pub bus: Bus,
     pub count: u16,
     pub start: usize,
 }
@@ -28,18 +27,13 @@ impl Schedule {
     pub fn read(file: &[u8]) -> Result<Schedule, Fault>
         ensures { result ≡ schedule_of limits file.now }
     {
-        let Bus { n, marks } = Bus::read(file)?;
-        let at = 1 + n as usize;
+        let bus = Bus::read(file)?;
+        let at = 1 + bus.n as usize;
         let Section { count } = Section::read(&file[at..])?;
         let start = at + Section::COUNT_BYTES;
         if file.len() - start > count as usize * Event::BYTES {
             return Err(Fault::LeftOver);
         }
-        Ok(Schedule {
-            n,
-            marks,
-            count,
-            start,
-        })
+        Ok(Schedule { bus, count, start })
     }
 }

@@ -18,8 +18,5 @@ pub fn play(
     ensures answers { answers.new ≡ answers_after limits n marks (take (event_bytes * count) events.now) answers.old }
 {
     let end = Event::BYTES * count as usize;
-    if end > events.len() {
-        return Bench::play(n, marks, events, answers);
-    }
-    Bench::play(n, marks, &events[..end], answers)
+    Bench::play(n, marks, &events[..end.min(events.len())], answers)
 }

@@ -10,6 +10,7 @@ use crate::text::Text;
 use bench::Bench;
 
 // What a file came to that was read and played: its boards, its events, the answer to each, and the bench after the last.
+// The answers are the first `count`: their memory is fixed, as there is no heap.
 #[derive(Drop)]
 pub struct Report {
     n: u8,
@@ -36,20 +37,16 @@ impl Report {
         + Bench::BOARDS as usize * Report::BOARD_LINE_BYTES;
 
     // Reads a file and plays it.
+    #[tactic(auto, using(crate::proofs::Rules::rules_report_report_of))]
     fn of(file: &[u8]) -> Result<Report, Fault>
         ensures text { report_text limits result ≡ printed limits file.now }
         ensures within { IfOk result (IsWithin limits) }
     {
-        let Schedule {
-            n,
-            marks,
-            count,
-            start,
-        } = Schedule::read(file)?;
+        let Schedule { bus, count, start } = Schedule::read(file)?;
         let mut answers = [0; Section::MOST_EVENTS as usize];
-        let played = player::play(n, marks, count, &file[start..], &mut answers);
+        let played = player::play(bus.n, bus.marks, count, &file[start..], &mut answers);
         Ok(Report {
-            n,
+            n: bus.n,
             count,
             answers,
             bench: played.bench,

@@ -12,7 +12,7 @@ use Rattle.bench.proofs.SetupLaws.{fresh-bench}
 use Rattle.schedule.specs.Prints.{PutAt, buffer_from}
 use Rattle.std.proofs.Common.{rules}
 use Rattle.schedule.proofs.PrintLaws.{put-none, put_then, put-length, buffer-short, buffer-written}
-use Rattle.schedule.proofs.PlayLaws.{file-taken, start-within, events-fit}
+use Rattle.schedule.proofs.PlayLaws.{file-taken, events-fit}
 use Rattle.fenderacai.specs.Traces.{traced}
 use Rattle.fenderacai.proofs.RowLaws.{length-row}
 use Rattle.fenderacai.proofs.TraceLaws.{trace-played, length-traced, refused-traced}
@@ -30,34 +30,26 @@ returns-then-length-out-clause-length c =
 pub returns-then-length-out-clause-buffer : goal.returns-then-length-out-clause-buffer
 returns-then-length-out-clause-buffer c =
     let bs = c.args.file.now in
-    let l = length-traced bs c.in-Ok.schedule (file-taken limits _ _ c.type_inv.file (sym c.read.ensures ∙ c.in-Ok.is)) in
+    let l = length-traced bs c.in-Ok.field-0 (file-taken limits _ _ c.type_inv.file (sym c.read.ensures ∙ c.in-Ok.is)) in
     buffer-short (traced limits bs) c.args.out.now (omega (arith, l, c.if-length-out.true))
-
-pub slice_bounds-rows-count : goal.slice_bounds-rows-count
-slice_bounds-rows-count c =
-    start-within limits _ _ (file-taken limits _ _ c.type_inv.file (sym c.read.ensures ∙ c.in-Ok.is))
-
-pub slice_bounds-rows-start : goal.slice_bounds-rows-start
-slice_bounds-rows-start c =
-    start-within limits _ _ (file-taken limits _ _ c.type_inv.file (sym c.read.ensures ∙ c.in-Ok.is))
 
 pub rows-requires : goal.rows-requires
 rows-requires c =
     let bs = c.args.file.now in
-    let s = c.in-Ok.schedule in
+    let s = c.in-Ok.field-0 in
     let read = file-taken limits bs s c.type_inv.file (sym c.read.ensures ∙ c.in-Ok.is) in
     record {
       events = omega (arith, ap length (part_to_end bs s.start), events-fit limits bs s read);
-      room = omega (arith, c.row.ensures.words.place, put-length c.row.ensures.words, length-row c.fresh-fresh.result.bench 0, c.if-length-out.false);
+      room = omega (arith, c.row.ensures.words.place, put-length c.row.ensures.words, length-row c.fresh-bench.result.bench 0, c.if-length-out.false);
     }
 
 -- the row of the fresh bench and those of the events are put
 pub returns : goal.returns
 returns c =
     let bs = c.args.file.now in
-    let s = c.in-Ok.schedule in
+    let s = c.in-Ok.field-0 in
     let read = file-taken limits bs s c.type_inv.file (sym c.read.ensures ∙ c.in-Ok.is) in
-    let begun : c.fresh-fresh.result.bench ≡ fresh_bench limits s.n s.marks = ap (λ (x : Fresh). x.bench) c.fresh-fresh.ensures ∙ fresh-bench limits s.n s.marks in
+    let begun : c.fresh-bench.result.bench ≡ fresh_bench limits s.bus.n s.bus.marks = ap (λ (x : Fresh). x.bench) c.fresh-bench.ensures ∙ fresh-bench limits s.bus.n s.bus.marks in
     let text : PutAt (traced limits bs) c.args.out.now 0 c.rows.new.self.out.now c.rows.new.self.length =
     rw (← trace-played limits bs s read) (put_then (rw begun at c.row.ensures.words) (rw (begun, part_to_end bs s.start) at c.rows.ensures.words)) in
     let l = length-traced bs s read in
