@@ -1,5 +1,6 @@
 -- Document 01, "Schedule file and program": what is printed, as bytes.
 use Rattle.std.specs.Prelude.{ℕ, zero, suc, ◌+◌, ◌*◌, ◌/◌, ◌%◌, List, [], ◌∷◌, ◌++◌, leb, ltb, length, ◌≡◌, ◌≤◌, Result, Ok, Err}
+use denote.Ref.{MutBor}
 use Rattle.std.proofs.lemmas.List.Edits.{sets}
 use Rattle.signer.specs.FromOne.{nth}
 use Rattle.std.specs.Prelude.{if◌then◌else◌}
@@ -113,3 +114,8 @@ IsWithin L r = (r.count ≤ most_events) × (r.n ≤ L.boards)
 pub record PutAt (text buf : List ℕ) (at : ℕ) (buf' : List ℕ) (after : ℕ) : Type 0 where
   pub place : after ≡ at + length text
   pub bytes : buf' ≡ sets buf at text
+
+-- And the buffer is still the one that was lent.
+pub record Puts (xs : List ℕ) (out : MutBor (List ℕ)) (at : ℕ) (out' : MutBor (List ℕ)) (after : ℕ) : Type 0 where
+  pub text : PutAt xs out.now at out'.now after
+  pub same : out'.ghost_name ≡ out.ghost_name

@@ -1,6 +1,6 @@
 ghost use Rattle.std.specs.Prelude.{◌+◌, ◌≤◌, ◌≡◌, [], ◌∷◌, length};
 ghost use Rattle.delivery.specs.Limits.{limits};
-ghost use Rattle.schedule.specs.Prints.{decimal, event_line, board_line, refused_line, PutAt, longest_print};
+ghost use Rattle.schedule.specs.Prints.{decimal, event_line, board_line, refused_line, Puts, longest_print};
 
 use crate::fault::Fault;
 use bench::Shown;
@@ -20,8 +20,7 @@ impl Text<'_> {
     // One byte.
     pub(crate) fn put(&mut self, byte: u8)
         requires { self.old.length + 1 ≤ longest_print limits }
-        ensures bytes { PutAt (byte ∷ []) self.old.out.now self.old.length self.new.out.now self.new.length }
-        ensures same { self.new.out.ghost_name ≡ self.old.out.ghost_name }
+        ensures { Puts (byte ∷ []) self.old.out self.old.length self.new.out self.new.length }
     {
         if self.length < self.out.len() {
             self.out[self.length] = byte;
@@ -33,8 +32,7 @@ impl Text<'_> {
     #[tactic(auto, using(crate::proofs::Rules::rules_text_number))]
     pub(crate) fn number(&mut self, m: u16)
         requires { self.old.length + length (decimal m) ≤ longest_print limits }
-        ensures bytes { PutAt (decimal m) self.old.out.now self.old.length self.new.out.now self.new.length }
-        ensures same { self.new.out.ghost_name ≡ self.old.out.ghost_name }
+        ensures { Puts (decimal m) self.old.out self.old.length self.new.out self.new.length }
     {
         self.word(Buffer::new().format(m).as_bytes());
     }
@@ -42,8 +40,7 @@ impl Text<'_> {
     // A text as it stands.
     pub(crate) fn word(&mut self, text: &[u8])
         requires { self.old.length + length text.now ≤ longest_print limits }
-        ensures bytes { PutAt text.now self.old.out.now self.old.length self.new.out.now self.new.length }
-        ensures same { self.new.out.ghost_name ≡ self.old.out.ghost_name }
+        ensures { Puts text.now self.old.out self.old.length self.new.out self.new.length }
     {
         for byte in text {
             self.put(*byte);
@@ -54,8 +51,7 @@ impl Text<'_> {
     #[tactic(auto, unfolding(crate::specs::Prints::event_line))]
     pub(crate) fn event_line(&mut self, k: u16, answer: u8)
         requires { self.old.length + length (event_line k answer) ≤ longest_print limits }
-        ensures bytes { PutAt (event_line k answer) self.old.out.now self.old.length self.new.out.now self.new.length }
-        ensures same { self.new.out.ghost_name ≡ self.old.out.ghost_name }
+        ensures { Puts (event_line k answer) self.old.out self.old.length self.new.out self.new.length }
     {
         self.number(k);
         self.put(b' ');
@@ -67,8 +63,7 @@ impl Text<'_> {
     #[tactic(auto, unfolding(crate::specs::Prints::board_line))]
     pub(crate) fn board_line(&mut self, k: u8, shown: Shown)
         requires { self.old.length + length (board_line k shown) ≤ longest_print limits }
-        ensures bytes { PutAt (board_line k shown) self.old.out.now self.old.length self.new.out.now self.new.length }
-        ensures same { self.new.out.ghost_name ≡ self.old.out.ghost_name }
+        ensures { Puts (board_line k shown) self.old.out self.old.length self.new.out self.new.length }
     {
         self.number(k as u16);
         self.put(b' ');
@@ -84,8 +79,7 @@ impl Text<'_> {
     #[tactic(auto, unfolding(crate::specs::Prints::refused_line))]
     pub(crate) fn refused_line(&mut self, fault: Fault)
         requires { self.old.length + length (refused_line fault) ≤ longest_print limits }
-        ensures bytes { PutAt (refused_line fault) self.old.out.now self.old.length self.new.out.now self.new.length }
-        ensures same { self.new.out.ghost_name ≡ self.old.out.ghost_name }
+        ensures { Puts (refused_line fault) self.old.out self.old.length self.new.out self.new.length }
     {
         self.word(b"refused");
         self.put(b' ');

@@ -26,7 +26,7 @@ loop-k-preserved c =
     let e : nth run.answers (k + 1) 0 ≡ answer = nth_after run.answers k 0 ∙ sym (get_or-take run.count run.answers k 0 there) in
     record {
       short = omega (arith, within);
-      put = parts_next (λ j. event_line j (nth run.answers j 0)) k c.loop-k.invariant.put (rw e c.event_line.ensures.bytes);
+      put = parts_next (λ j. event_line j (nth run.answers j 0)) k c.loop-k.invariant.put (rw e c.event_line.ensures.text);
       same = c.event_line.ensures.same ∙ c.loop-k.invariant.same;
     }
 
@@ -52,7 +52,7 @@ loop-k-2-preserved c =
     record {
       more = omega arith;
       short = omega (arith, within);
-      put = rw last (parts_then _ (λ j. board_line j (shown limits run.bench j)) k (k - 1) (omega arith) c.loop-k-2.invariant.put (rw c.shown.ensures at c.board_line.ensures.bytes));
+      put = rw last (parts_then _ (λ j. board_line j (shown limits run.bench j)) k (k - 1) (omega arith) c.loop-k-2.invariant.put (rw c.shown.ensures at c.board_line.ensures.text));
       same = c.board_line.ensures.same ∙ c.loop-k-2.invariant.same;
     }
 
@@ -64,4 +64,4 @@ returns-2-clause-lines c =
     let k = c.loop-k-2.k in
     let run = c.args.self.now in
     let end : k ≡ run.n = omega arith in
-    rw (← end) (parts_then _ (λ j. board_line j (shown limits run.bench j)) k (k - 1) (omega arith) c.loop-k-2.invariant.put (rw c.shown.ensures at c.board_line.ensures.bytes))
+    rw (← end) (parts_then _ (λ j. board_line j (shown limits run.bench j)) k (k - 1) (omega arith) c.loop-k-2.invariant.put (rw c.shown.ensures at c.board_line.ensures.text))

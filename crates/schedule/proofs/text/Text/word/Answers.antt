@@ -7,6 +7,6 @@ pub loop-byte-preserved : goal.loop-byte-preserved
 loop-byte-preserved c =
     let l = c.loop-byte in
     record {
-      bytes = put_more c.args.text.now _ c.loop-byte-test.true l.invariant.bytes c.put.ensures.bytes;
+      bytes = put_more c.args.text.now _ c.loop-byte-test.true l.invariant.bytes c.put.ensures.text;
       same = c.put.ensures.same ∙ l.invariant.same;
     }
