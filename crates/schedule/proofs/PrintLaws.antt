@@ -6,6 +6,7 @@ use native.Mathlib.Omega.{arith}
 use native.Mathlib.Decide.{dec_lt}
 use mir.Syntax.{w8, w16}
 use mir.Val.{Fits}
+use denote.Ref.{MutBor}
 use borrow.Author.Tests.{leb-true, ltb-false, lt-ltb, le-ltb, le-leb, lt-leb}
 use mathlib.Core.Path.{◌≡◌, refl, sym, ap, subst, ◌∙◌}
 use mathlib.Core.List.{List, [], ◌∷◌, ◌++◌, append_assoc}
@@ -21,7 +22,7 @@ use Rattle.delivery.specs.Limits.{limits}
 use Rattle.bench.specs.declared.show.Shown.{Shown}
 use Rattle.bench.proofs.RunLaws.{sets-written}
 use Rattle.schedule.specs.Files.{most_events, fault_number}
-use Rattle.schedule.specs.Prints.{digit, decimal_in, decimal, parts_to, event_line, board_line, refused_line, report_from, buffer_from, PutAt, event_line_bytes, board_line_bytes, longest_print}
+use Rattle.schedule.specs.Prints.{digit, decimal_in, decimal, parts_to, event_line, board_line, refused_line, report_from, buffer_from, PutAt, Puts, event_line_bytes, board_line_bytes, longest_print}
 use Rattle.schedule.specs.declared.fault.Fault.{Fault}
 use Rattle.schedule.specs.declared.report.TooShort.{TooShort}
 use Rattle.schedule.proofs.FaultLaws.{fault-row}
@@ -54,10 +55,17 @@ put_then {xs} {ys} {buf} {buf'} {buf''} {at} {r} {r'} p q = record {
       ∙ sets-append xs ys buf at;
 }
 
--- where the first bytes of a text were put, and then the next, one more is put
-pub put_more : {buf buf' buf'' : List ℕ} {at r r' : ℕ} (text : List ℕ) (k : ℕ) → k < length text
-    → PutAt (take k text) buf at buf' r → PutAt (get_or text k 0 ∷ []) buf' r buf'' r' → PutAt (take (k + 1) text) buf at buf'' r'
-put_more text k there p q = rw (take_more text k 0 there) (put_then p q)
+-- the same of calls that put texts into one buffer: nothing, two texts, and one byte more of a text
+pub puts_none : {out : MutBor (List ℕ)} {at : ℕ} → Puts [] out at out at
+puts_none = record { text = put-none; same = refl }
+
+pub puts_then : {xs ys : List ℕ} {out out' out'' : MutBor (List ℕ)} {at r r' : ℕ}
+    → Puts xs out at out' r → Puts ys out' r out'' r' → Puts (xs ++ ys) out at out'' r'
+puts_then p q = record { text = put_then p.text q.text; same = q.same ∙ p.same }
+
+pub puts_more : {out out' out'' : MutBor (List ℕ)} {at r r' : ℕ} (text : List ℕ) (k : ℕ) → k < length text
+    → Puts (take k text) out at out' r → Puts (get_or text k 0 ∷ []) out' r out'' r' → Puts (take (k + 1) text) out at out'' r'
+puts_more text k there p q = rw (take_more text k 0 there) (puts_then p q)
 
 -- the buffer is as long as it was
 pub put-length : {xs buf buf' : List ℕ} {at r : ℕ} → PutAt xs buf at buf' r → length buf' ≡ length buf
@@ -129,14 +137,14 @@ unfolding refused_line
 refused-within f = simp length-append (omega (arith, digits-within 0 (fault_number f) (omega (arith, (fault-row f).1)) (omega (arith, (fault-row f).1))))
 
 -- before any part nothing is put, and after k parts one part more makes k + 1
-pub parts_none : {buf : List ℕ} {at : ℕ} (f : ℕ → List ℕ) → PutAt (parts_to 0 f) buf at buf at
+pub parts_none : {out : MutBor (List ℕ)} {at : ℕ} (f : ℕ → List ℕ) → Puts (parts_to 0 f) out at out at
 unfolding parts_to
-parts_none f = put-none
+parts_none f = puts_none
 
-pub parts_next : {buf buf' buf'' : List ℕ} {at r r' : ℕ} (f : ℕ → List ℕ) (k : ℕ)
-    → PutAt (parts_to k f) buf at buf' r → PutAt (f (k + 1)) buf' r buf'' r' → PutAt (parts_to (k + 1) f) buf at buf'' r'
+pub parts_next : {out out' out'' : MutBor (List ℕ)} {at r r' : ℕ} (f : ℕ → List ℕ) (k : ℕ)
+    → Puts (parts_to k f) out at out' r → Puts (f (k + 1)) out' r out'' r' → Puts (parts_to (k + 1) f) out at out'' r'
 unfolding parts_to
-parts_next f k p q = rw (add-one k) (put_then p (rw (add-one k) at q))
+parts_next f k p q = rw (add-one k) (puts_then p (rw (add-one k) at q))
 
 -- k + 1 parts are k, and then one more
 pub parts_more : (f : ℕ → List ℕ) (k : ℕ) → parts_to (k + 1) f ≡ parts_to k f ++ f (k + 1)
@@ -144,11 +152,11 @@ unfolding parts_to
 parts_more f k = rw (add-one k) refl
 
 -- the same after another text
-pub parts_then : {buf buf' buf'' : List ℕ} {at r r' : ℕ} (xs : List ℕ) (f : ℕ → List ℕ) (k j : ℕ) → k ≡ j + 1
-    → PutAt (xs ++ parts_to j f) buf at buf' r → PutAt (f k) buf' r buf'' r' → PutAt (xs ++ parts_to k f) buf at buf'' r'
+pub parts_then : {out out' out'' : MutBor (List ℕ)} {at r r' : ℕ} (xs : List ℕ) (f : ℕ → List ℕ) (k j : ℕ) → k ≡ j + 1
+    → Puts (xs ++ parts_to j f) out at out' r → Puts (f k) out' r out'' r' → Puts (xs ++ parts_to k f) out at out'' r'
 unfolding parts_to
-parts_then {buf} {buf'' = buf''} {at} {r' = r'} xs f k j e p q =
-    rw (e, add-one j) (subst (λ (ys : List ℕ). PutAt ys buf at buf'' r') (append_assoc xs (parts_to j f) (f (suc j))) (put_then p (rw (e, add-one j) at q)))
+parts_then {out} {out'' = out''} {at} {r' = r'} xs f k j e p q =
+    rw (e, add-one j) (subst (λ (ys : List ℕ). Puts ys out at out'' r') (append_assoc xs (parts_to j f) (f (suc j))) (puts_then p (rw (e, add-one j) at q)))
 
 -- parts that are alike, one after another, are one text
 pub parts_same : (n : ℕ) (f g : ℕ → List ℕ) → ((k : ℕ) → 1 ≤ k → k ≤ n → f k ≡ g k) → parts_to n f ≡ parts_to n g

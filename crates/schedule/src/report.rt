@@ -1,6 +1,6 @@
 ghost use Rattle.std.specs.Prelude.{◌*◌, ◌≤◌, ◌≡◌, length, IfOk};
 ghost use Rattle.delivery.specs.Limits.{limits};
-ghost use Rattle.schedule.specs.Prints.{printed, report_from, buffer_from, report_lines, report_text, IsWithin, PutAt, longest_print};
+ghost use Rattle.schedule.specs.Prints.{printed, report_from, buffer_from, report_lines, report_text, IsWithin, PutAt, Puts, longest_print};
 
 use crate::fault::Fault;
 use crate::file::Schedule;
@@ -59,8 +59,7 @@ impl Report {
         requires own { IsWithin limits self.now }
         requires start { text.old.length ≡ 0 }
         ensures within { text.new.length ≤ longest_print limits }
-        ensures lines { PutAt (report_lines limits self.now) text.old.out.now 0 text.new.out.now text.new.length }
-        ensures same { text.new.out.ghost_name ≡ text.old.out.ghost_name }
+        ensures lines { Puts (report_lines limits self.now) text.old.out 0 text.new.out text.new.length }
     {
         for (k, answer) in self.answers[..self.count as usize].iter().enumerate() {
             text.event_line(k as u16 + 1, *answer);

@@ -9,12 +9,12 @@ use Rattle.signer.proofs.FromOneLaws.{nth_after}
 use Rattle.delivery.specs.Limits.{limits}
 use Rattle.bench.specs.Shows.{shown}
 use Rattle.schedule.specs.Prints.{event_line, event_line_bytes, board_line, board_line_bytes}
-use Rattle.schedule.proofs.PrintLaws.{put_then, event-within, board-within, parts_none, parts_next, parts_then}
+use Rattle.schedule.proofs.PrintLaws.{puts_then, event-within, board-within, parts_none, parts_next, parts_then}
 use Rattle.schedule.proofs.report.Report.lines.Goals as goal
 
 pub loop-k-init : goal.loop-k-init
 loop-k-init c =
-    record { short = omega arith; put = rw c.requires.start (parts_none _); same = refl }
+    record { short = omega arith; put = rw c.requires.start (parts_none _) }
 
 pub loop-k-preserved : goal.loop-k-preserved
 loop-k-preserved c =
@@ -26,8 +26,7 @@ loop-k-preserved c =
     let e : nth run.answers (k + 1) 0 ≡ answer = nth_after run.answers k 0 ∙ sym (get_or-take run.count run.answers k 0 there) in
     record {
       short = omega (arith, within);
-      put = parts_next (λ j. event_line j (nth run.answers j 0)) k c.loop-k.invariant.put (rw e c.event_line.ensures.text);
-      same = c.event_line.ensures.same ∙ c.loop-k.invariant.same;
+      put = parts_next (λ j. event_line j (nth run.answers j 0)) k c.loop-k.invariant.put (rw e c.event_line.ensures);
     }
 
 pub loop-k-2-init : goal.loop-k-2-init
@@ -38,8 +37,7 @@ loop-k-2-init c =
     record {
       more = omega arith;
       short = omega (arith, end);
-      put = put_then (rw end at c.loop-k.invariant.put) (parts_none _);
-      same = c.loop-k.invariant.same;
+      put = puts_then (rw end at c.loop-k.invariant.put) (parts_none _);
     }
 
 pub loop-k-2-preserved : goal.loop-k-2-preserved
@@ -52,8 +50,7 @@ loop-k-2-preserved c =
     record {
       more = omega arith;
       short = omega (arith, within);
-      put = rw last (parts_then _ (λ j. board_line j (shown limits run.bench j)) k (k - 1) (omega arith) c.loop-k-2.invariant.put (rw c.shown.ensures at c.board_line.ensures.text));
-      same = c.board_line.ensures.same ∙ c.loop-k-2.invariant.same;
+      put = rw last (parts_then _ (λ j. board_line j (shown limits run.bench j)) k (k - 1) (omega arith) c.loop-k-2.invariant.put (rw c.shown.ensures at c.board_line.ensures));
     }
 
 pub returns-clause-lines : goal.returns-clause-lines
@@ -64,4 +61,4 @@ returns-2-clause-lines c =
     let k = c.loop-k-2.k in
     let run = c.args.self.now in
     let end : k ≡ run.n = omega arith in
-    rw (← end) (parts_then _ (λ j. board_line j (shown limits run.bench j)) k (k - 1) (omega arith) c.loop-k-2.invariant.put (rw c.shown.ensures at c.board_line.ensures.text))
+    rw (← end) (parts_then _ (λ j. board_line j (shown limits run.bench j)) k (k - 1) (omega arith) c.loop-k-2.invariant.put (rw c.shown.ensures at c.board_line.ensures))
