@@ -5,13 +5,14 @@ use mathlib.Core.Path.{◌≡◌, refl, sym, ap, ◌∙◌}
 use mathlib.Core.List.{List, [], ◌∷◌, ◌++◌, append_assoc}
 use lib.ListN.{length, take, drop, length-append}
 use lib.Seq.{sets, sets-eq, drop-drop}
+use denote.Ref.{MutBor}
 use borrow.Rule.Slice.PartMut.{put_mid}
 use Rattle.delivery.specs.Limits.{limits}
 use Rattle.delivery.specs.Owed.{receivers}
 use Rattle.bench.specs.Benches.{board_at, signer_at, signed_by, heard_by}
 use Rattle.bench.specs.declared.bench.Bench.{Bench}
 use Rattle.vote.specs.declared.board.Board.{Board}
-use Rattle.schedule.specs.Prints.{PutAt}
+use Rattle.schedule.specs.Prints.{Puts}
 use Rattle.schedule.proofs.PrintLaws.{put-length, length-parts}
 use Rattle.fenderacai.specs.Rows.{status_words, position_words, board_words, boards_words, words_to, table_words, delivered_words, row, board_size, table_size, row_size}
 
@@ -62,5 +63,6 @@ words_put words copied buf at k e n h =
     ∙ sym (sets-eq words buf at h)
 
 -- where a text was put, and there was room for it and for k words more, there is still room for these
-pub room-left : {xs buf buf' : List ℕ} {at r m : ℕ} (k : ℕ) → PutAt xs buf at buf' r → length xs ≡ m → at + (m + k) ≤ length buf → r + k ≤ length buf'
-room-left k p e h = omega (arith, p.place, e, put-length p, h)
+pub room-left : {xs : List ℕ} {out out' : MutBor (List ℕ)} {at r m : ℕ} (k : ℕ)
+    → Puts xs out at out' r → length xs ≡ m → at + (m + k) ≤ length out.now → r + k ≤ length out'.now
+room-left k p e h = omega (arith, p.text.place, e, put-length p.text, h)

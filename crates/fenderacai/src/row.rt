@@ -1,6 +1,6 @@
 ghost use Rattle.std.specs.Prelude.{◌+◌, ◌*◌, ◌≤◌, ◌≡◌, ℕ, length};
 ghost use Rattle.delivery.specs.Limits.{limits};
-ghost use Rattle.schedule.specs.Prints.{PutAt};
+ghost use Rattle.schedule.specs.Prints.{Puts};
 ghost use Rattle.fenderacai.specs.Rows.{status_number, decision, board_words, boards_words, table_words, delivered_words, Tells, row, board_size, table_size, row_size};
 
 use bench::Bench;
@@ -61,8 +61,7 @@ impl Words<'_> {
     // Words as they stand.
     fn list(&mut self, words: &[u32])
         requires { self.old.length + length words.now ≤ length self.old.out.now }
-        ensures words { PutAt words.now self.old.out.now self.old.length self.new.out.now self.new.length }
-        ensures same { self.new.out.ghost_name ≡ self.old.out.ghost_name }
+        ensures { Puts words.now self.old.out self.old.length self.new.out self.new.length }
     {
         let end = self.length + words.len();
         self.out[self.length..end].copy_from_slice(words);
@@ -73,8 +72,7 @@ impl Words<'_> {
     #[tactic(auto, unfolding(crate::specs::Rows::board_words, crate::specs::Rows::status_words, crate::specs::Rows::position_words, crate::specs::Rows::stage_number))]
     fn board(&mut self, board: &Board, last: Identifier)
         requires { self.old.length + board_size ≤ length self.old.out.now }
-        ensures words { PutAt (board_words board.now last.0) self.old.out.now self.old.length self.new.out.now self.new.length }
-        ensures same { self.new.out.ghost_name ≡ self.old.out.ghost_name }
+        ensures { Puts (board_words board.now last.0) self.old.out self.old.length self.new.out self.new.length }
     {
         let decided = decision(board.status);
         self.list(&[
@@ -92,8 +90,7 @@ impl Words<'_> {
     // Every board.
     fn boards(&mut self, bench: &Bench)
         requires { self.old.length + limits.boards * board_size ≤ length self.old.out.now }
-        ensures words { PutAt (boards_words limits bench.now) self.old.out.now self.old.length self.new.out.now self.new.length }
-        ensures same { self.new.out.ghost_name ≡ self.old.out.ghost_name }
+        ensures { Puts (boards_words limits bench.now) self.old.out self.old.length self.new.out self.new.length }
     {
         for k in 0..Bench::BOARDS {
             self.board(&bench.board(k + 1), bench.signer(k + 1).last);
@@ -104,8 +101,9 @@ impl Words<'_> {
     fn table<F: Fn(u8, Identifier) -> u32>(&mut self, word: F)
         requires calls { F.IsAlwaysCallable word }
         requires room { self.old.length + table_size limits ≤ length self.old.out.now }
-        ensures words { (f : ℕ → ℕ → ℕ) → Tells limits (F.post word) f → PutAt (table_words limits f) self.old.out.now self.old.length self.new.out.now self.new.length }
-        ensures same { self.new.out.ghost_name ≡ self.old.out.ghost_name }
+        ensures place { self.new.length ≡ self.old.length + table_size limits }
+        ensures long { length self.new.out.now ≡ length self.old.out.now }
+        ensures words { (f : ℕ → ℕ → ℕ) → Tells limits (F.post word) f → Puts (table_words limits f) self.old.out self.old.length self.new.out self.new.length }
     {
         for k in 0..Bench::BOARDS {
             for i in 0..Identifier::LAST {
@@ -117,8 +115,7 @@ impl Words<'_> {
     // What each board delivered.
     fn delivered(&mut self, bench: &Bench)
         requires { self.old.length + limits.boards * table_size limits ≤ length self.old.out.now }
-        ensures words { PutAt (delivered_words limits bench.now) self.old.out.now self.old.length self.new.out.now self.new.length }
-        ensures same { self.new.out.ghost_name ≡ self.old.out.ghost_name }
+        ensures { Puts (delivered_words limits bench.now) self.old.out self.old.length self.new.out self.new.length }
     {
         for k in 0..Bench::BOARDS {
             let board = bench.board(k + 1);
@@ -129,8 +126,7 @@ impl Words<'_> {
     // A row.
     pub(crate) fn row(&mut self, answer: u8, bench: &Bench)
         requires { self.old.length + row_size limits ≤ length self.old.out.now }
-        ensures words { PutAt (row limits answer bench.now) self.old.out.now self.old.length self.new.out.now self.new.length }
-        ensures same { self.new.out.ghost_name ≡ self.old.out.ghost_name }
+        ensures { Puts (row limits answer bench.now) self.old.out self.old.length self.new.out self.new.length }
     {
         self.list(&[answer as u32, bench.n as u32, bench.sound.bits() as u32]);
         self.boards(bench);

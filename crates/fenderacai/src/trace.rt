@@ -2,7 +2,7 @@ ghost use Rattle.std.specs.Prelude.{◌+◌, ◌*◌, ◌≤◌, ◌≡◌, leng
 ghost use Rattle.delivery.specs.Limits.{limits};
 ghost use Rattle.bench.specs.Events.{event_bytes};
 ghost use Rattle.bench.specs.Runs.{events_in};
-ghost use Rattle.schedule.specs.Prints.{PutAt, buffer_from};
+ghost use Rattle.schedule.specs.Prints.{Puts, buffer_from};
 ghost use Rattle.fenderacai.specs.Rows.{row_size};
 ghost use Rattle.fenderacai.specs.Traces.{rows_of, traced};
 
@@ -17,8 +17,7 @@ impl Words<'_> {
     fn rows(&mut self, bench: &mut Bench, count: usize, events: &[u8])
         requires events { event_bytes * count ≤ length events.now }
         requires room { self.old.length + row_size limits * count ≤ length self.old.out.now }
-        ensures words { PutAt (rows_of limits bench.old (events_in count events.now)) self.old.out.now self.old.length self.new.out.now self.new.length }
-        ensures same { self.new.out.ghost_name ≡ self.old.out.ghost_name }
+        ensures { Puts (rows_of limits bench.old (events_in count events.now)) self.old.out self.old.length self.new.out self.new.length }
     {
         for k in 0..count {
             let answer = bench.apply(Event::read(&events[Event::BYTES * k..]));

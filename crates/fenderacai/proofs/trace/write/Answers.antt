@@ -40,7 +40,7 @@ rows-requires c =
     let read = file-taken limits bs s c.type_inv.file (sym c.read.ensures ∙ c.in-Ok.is) in
     record {
       events = omega (arith, ap length (part_to_end bs s.start), events-fit limits bs s read);
-      room = omega (arith, c.row.ensures.words.place, put-length c.row.ensures.words, length-row c.fresh-bench.result.bench 0, c.if-length-out.false);
+      room = omega (arith, c.row.ensures.text.place, put-length c.row.ensures.text, length-row c.fresh-bench.result.bench 0, c.if-length-out.false);
     }
 
 -- the row of the fresh bench and those of the events are put
@@ -51,7 +51,7 @@ returns c =
     let read = file-taken limits bs s c.type_inv.file (sym c.read.ensures ∙ c.in-Ok.is) in
     let begun : c.fresh-bench.result.bench ≡ fresh_bench limits s.bus.n s.bus.marks = ap (λ (x : Fresh). x.bench) c.fresh-bench.ensures ∙ fresh-bench limits s.bus.n s.bus.marks in
     let text : PutAt (traced limits bs) c.args.out.now 0 c.rows.new.self.out.now c.rows.new.self.length =
-    rw (← trace-played limits bs s read) (put_then (rw begun at c.row.ensures.words) (rw (begun, part_to_end bs s.start) at c.rows.ensures.words)) in
+    rw (← trace-played limits bs s read) (put_then (rw begun at c.row.ensures.text) (rw (begun, part_to_end bs s.start) at c.rows.ensures.text)) in
     let l = length-traced bs s read in
     let written : c.rows.new.self.out.now ≡ buffer_from (traced limits bs) c.args.out.now = buffer-written (omega (arith, l, c.if-length-out.false)) text in
     record { length = omega (arith, text.place); buffer = search rules }

@@ -9,16 +9,13 @@ use Rattle.fenderacai.proofs.RowLaws.{length-board, room-left}
 use Rattle.fenderacai.proofs.row.Words.boards.Goals as goal
 
 pub loop-k-init : goal.loop-k-init
-loop-k-init c = record { words = parts_none _; same = refl }
+loop-k-init c = parts_none _
 
 pub board-requires-in-loop-k : goal.board-requires-in-loop-k
 board-requires-in-loop-k c =
     let a = c.args.bench.now in
-    room-left _ c.loop-k.invariant.words (length-parts board_size c.loop-k.k _ (λ j. length-board (board_at limits a j) (signer_at limits a j).last.0)) (omega (arith, c.requires))
+    room-left _ c.loop-k.invariant (length-parts board_size c.loop-k.k _ (λ j. length-board (board_at limits a j) (signer_at limits a j).last.0)) (omega (arith, c.requires))
 
 pub loop-k-preserved : goal.loop-k-preserved
 loop-k-preserved c =
-    record {
-      words = parts_next _ c.loop-k.k c.loop-k.invariant.words (rw (c.signer.ensures, c.board.ensures) at c.board-in-loop-k.ensures.words);
-      same = c.board-in-loop-k.ensures.same ∙ c.loop-k.invariant.same;
-    }
+    parts_next _ c.loop-k.k c.loop-k.invariant (rw (c.signer.ensures, c.board.ensures) at c.board-in-loop-k.ensures)

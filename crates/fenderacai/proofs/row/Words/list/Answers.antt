@@ -1,8 +1,13 @@
 -- `Words::list` meets its contract. Assumes nothing.
 use native.Mathlib.Omega.{arith}
+use Rattle.std.proofs.Common.{rules}
 use mathlib.Core.Path.{refl}
 use Rattle.fenderacai.proofs.RowLaws.{words_put}
 use Rattle.fenderacai.proofs.row.Words.list.Goals as goal
 
-pub returns-clause-words : goal.returns-clause-words
-returns-clause-words c = record { place = refl; bytes = words_put _ _ _ _ _ c.copy_from_slice.ensures.after (omega arith) c.requires }
+pub returns : goal.returns
+returns c =
+    record {
+      text = record { place = refl; bytes = words_put _ _ _ _ _ c.copy_from_slice.ensures.after (omega arith) c.requires };
+      same = search rules;
+    }

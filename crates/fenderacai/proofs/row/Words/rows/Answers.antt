@@ -31,7 +31,7 @@ loop-k-preserved c =
     let event : c.read.result ≡ e = c.read.ensures ∙ ap event_from (part_to_end bs at) in
     let bench : c.apply-answer.new.self ≡ (step_of limits l.bench e).bench = c.apply-answer.ensures.1 ∙ ap (λ (x : Event). (step_of limits l.bench x).bench) event in
     let answer : c.number_of.result ≡ answer_number (step_of limits l.bench e).answer = c.number_of.ensures ∙ answer-numbered _ ∙ ap answer_number (c.apply-answer.ensures.0 ∙ ap (λ (x : Event). (step_of limits l.bench x).answer) event) in
-    let put : PutAt (row limits (answer_number (step_of limits l.bench e).answer) (step_of limits l.bench e).bench) l.self.out.now l.self.length c.row.new.self.out.now c.row.new.self.length = rw (answer, bench) at c.row.ensures.words in
+    let put : PutAt (row limits (answer_number (step_of limits l.bench e).answer) (step_of limits l.bench e).bench) l.self.out.now l.self.length c.row.new.self.out.now c.row.new.self.length = rw (answer, bench) at c.row.ensures.text in
     let far : event_bytes * (l.k + 1) ≡ at + event_bytes = omega arith in
     record {
       place = omega (arith, put.place, l.invariant.place, length-row (step_of limits l.bench e).bench (answer_number (step_of limits l.bench e).answer));

@@ -4,20 +4,19 @@ use native.Mathlib.Omega.{arith}
 use mathlib.Core.Path.{◌≡◌, refl, ◌∙◌}
 use mathlib.Core.List.{[], ◌∷◌}
 use Rattle.delivery.specs.Limits.{limits}
-use Rattle.schedule.proofs.PrintLaws.{put-length, put_then, parts_none, parts_more, parts_then}
+use Rattle.schedule.proofs.PrintLaws.{put-length, puts_then, parts_none, parts_more, parts_then}
 use Rattle.fenderacai.specs.Rows.{words_to, table_words}
 use Rattle.fenderacai.proofs.row.Words.table.Goals as goal
 
 pub loop-k-init : goal.loop-k-init
-loop-k-init g c = record { place = omega arith; long = refl; words = λ f t. parts_none _; same = refl }
+loop-k-init g c = record { place = omega arith; long = refl; words = λ f t. parts_none _ }
 
 pub loop-i-init : goal.loop-i-init
 loop-i-init g c =
     record {
       place = omega (arith, c.loop-k.invariant.place);
       long = c.loop-k.invariant.long;
-      words = λ f t. put_then (c.loop-k.invariant.words f t) (parts_none _);
-      same = c.loop-k.invariant.same;
+      words = λ f t. puts_then (c.loop-k.invariant.words f t) (parts_none _);
     }
 
 pub loop-i-preserved : goal.loop-i-preserved
@@ -25,13 +24,12 @@ loop-i-preserved g c =
     let k = c.loop-k.k in
     let i = c.loop-i.i in
     record {
-      place = omega (arith, c.loop-i.invariant.place, c.list.ensures.words.place);
-      long = put-length c.list.ensures.words ∙ c.loop-i.invariant.long;
+      place = omega (arith, c.loop-i.invariant.place, c.list.ensures.text.place);
+      long = put-length c.list.ensures.text ∙ c.loop-i.invariant.long;
       words =
           λ f t.
           let told : c.word.result ≡ f (k + 1) (i + 1) = t (k + 1) (i + 1) c.word.result (omega arith) (omega arith) c.word.ensures in
-          parts_then _ (λ j. f (k + 1) j ∷ []) (i + 1) i refl (c.loop-i.invariant.words f t) (rw told at c.list.ensures.words);
-      same = c.list.ensures.same ∙ c.loop-i.invariant.same;
+          parts_then _ (λ j. f (k + 1) j ∷ []) (i + 1) i refl (c.loop-i.invariant.words f t) (rw told at c.list.ensures);
     }
 
 pub loop-k-preserved : goal.loop-k-preserved
@@ -43,7 +41,6 @@ loop-k-preserved g c =
       words =
           λ f t.
           rw (parts_more (λ s. words_to limits.identifiers (f s)) c.loop-k.k) (rw end at c.loop-i.invariant.words f t);
-      same = c.loop-i.invariant.same;
     }
 
 pub returns-clause-words : goal.returns-clause-words

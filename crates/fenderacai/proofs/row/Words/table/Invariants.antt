@@ -5,7 +5,7 @@ use mathlib.Core.Path.{◌≡◌}
 use mathlib.Core.List.{◌++◌}
 use lib.ListN.{length}
 use Rattle.delivery.specs.Limits.{limits}
-use Rattle.schedule.specs.Prints.{parts_to, PutAt}
+use Rattle.schedule.specs.Prints.{parts_to, Puts}
 use Rattle.fenderacai.specs.Rows.{words_to, Tells}
 use Rattle.fenderacai.proofs.row.Words.table.Given as goal
 
@@ -14,8 +14,7 @@ invariant-loop-k g l = record {
   place : l.self.length ≡ l.fn.self.length + limits.identifiers * l.k;
   long : length l.self.out.now ≡ length l.fn.self.out.now;
   words : (f : ℕ → ℕ → ℕ) → Tells limits (goal.F-post g l.word) f
-      → PutAt (parts_to l.k (λ s. words_to limits.identifiers (f s))) l.fn.self.out.now l.fn.self.length l.self.out.now l.self.length;
-  same : l.self.out.ghost_name ≡ l.fn.self.out.ghost_name;
+      → Puts (parts_to l.k (λ s. words_to limits.identifiers (f s))) l.fn.self.out l.fn.self.length l.self.out l.self.length;
 }
 
 abbrev pub invariant-loop-i : goal.invariant-loop-i
@@ -23,6 +22,5 @@ invariant-loop-i g l = record {
   place : l.self.length ≡ l.fn.self.length + limits.identifiers * l.k + l.i;
   long : length l.self.out.now ≡ length l.fn.self.out.now;
   words : (f : ℕ → ℕ → ℕ) → Tells limits (goal.F-post g l.word) f
-      → PutAt (parts_to l.k (λ s. words_to limits.identifiers (f s)) ++ words_to l.i (f (l.k + 1))) l.fn.self.out.now l.fn.self.length l.self.out.now l.self.length;
-  same : l.self.out.ghost_name ≡ l.fn.self.out.ghost_name;
+      → Puts (parts_to l.k (λ s. words_to limits.identifiers (f s)) ++ words_to l.i (f (l.k + 1))) l.fn.self.out l.fn.self.length l.self.out l.self.length;
 }
