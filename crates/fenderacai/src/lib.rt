@@ -1,5 +1,6 @@
 // What other languages call. Each call plays a schedule file: one writes its report, the other the state before the first
-// event and after each. A slice is passed as a pointer and a length.
+// event and after each. A slice is passed as a pointer and a length. Both are C functions here too, under the names that
+// `fenderacai_c` exports them by: what a library has of the C interface stays.
 #![tactic(auto)]
 
 ghost use Rattle.std.specs.Prelude.{◌≡◌, length};

@@ -1,6 +1,5 @@
 -- `Words::boards` meets its contract. Assumes nothing.
 use native.Mathlib.Omega.{arith}
-use mathlib.Core.Path.{refl, ◌∙◌}
 use Rattle.delivery.specs.Limits.{limits}
 use Rattle.bench.specs.Benches.{board_at, signer_at}
 use Rattle.schedule.proofs.PrintLaws.{parts_none, parts_next, length-parts}

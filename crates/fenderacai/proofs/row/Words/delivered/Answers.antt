@@ -2,7 +2,6 @@
 use Prim.Native.Nat.{◌+◌}
 use native.Mathlib.Omega.{arith}
 use Rattle.std.proofs.Common.{rules}
-use mathlib.Core.Path.{refl, ◌∙◌}
 use Rattle.delivery.specs.Limits.{limits}
 use Rattle.bench.specs.Benches.{heard_by}
 use Rattle.schedule.proofs.PrintLaws.{parts_none, parts_next, length-parts}

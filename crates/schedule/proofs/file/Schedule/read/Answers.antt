@@ -1,6 +1,6 @@
 -- `Schedule::read` meets its contract: the second section begins after the first, and what is longer than both goes on
 -- after the last event. Assumes nothing.
-use Prim.Native.Nat.{ℕ, ◌+◌, ◌-◌}
+use Prim.Native.Nat.{ℕ, ◌-◌}
 use native.Mathlib.Omega.{arith}
 use borrow.Author.Rules.{part_to_end}
 use mathlib.Core.Path.{◌≡◌, sym, ◌∙◌}

@@ -1,7 +1,7 @@
 -- `Report::lines` meets its contract. Assumes nothing.
 use Prim.Native.Nat.{◌+◌, ◌-◌, ◌≤◌, ◌<◌}
 use native.Mathlib.Omega.{arith}
-use mathlib.Core.Path.{◌≡◌, refl, sym, ◌∙◌}
+use mathlib.Core.Path.{◌≡◌, sym, ◌∙◌}
 use Rattle.std.proofs.lemmas.List.{get_or-take, length-take}
 use lib.ListN.{length, take, get_or}
 use Rattle.signer.specs.FromOne.{nth}

@@ -1,7 +1,6 @@
 -- The loops' invariants of `Report::lines`: the lines of the first events, and then of the first boards, are put, each of
 -- them within its most bytes.
 use Prim.Native.Nat.{◌+◌, ◌-◌, ◌*◌, ◌≤◌}
-use mathlib.Core.Path.{◌≡◌}
 use mathlib.Core.List.{◌++◌}
 use Rattle.delivery.specs.Limits.{limits}
 use Rattle.schedule.specs.Files.{most_events}
