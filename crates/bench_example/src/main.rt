@@ -14,160 +14,223 @@ use signer::Identifier;
 use std::io;
 use vote::number_of;
 
+type Marks = [u8; Bench::BOARDS as usize];
+
 // The marks of the boards: which of them are faulty.
-const NONE: [u8; Bench::BOARDS as usize] = [0, 0, 0, 0, 0, 0, 0];
+const NONE: Marks = [0, 0, 0, 0, 0, 0, 0];
 
-const SECOND: [u8; Bench::BOARDS as usize] = [0, 1, 0, 0, 0, 0, 0];
+const SECOND: Marks = [0, 1, 0, 0, 0, 0, 0];
 
-const THIRD: [u8; Bench::BOARDS as usize] = [0, 0, 1, 0, 0, 0, 0];
+const THIRD: Marks = [0, 0, 1, 0, 0, 0, 0];
 
-const SECOND_AND_THIRD: [u8; Bench::BOARDS as usize] = [0, 1, 1, 0, 0, 0, 0];
+const SECOND_AND_THIRD: Marks = [0, 1, 1, 0, 0, 0, 0];
 
 // And with marks that there are not: at the second board, and after the first.
-const NO_MARK: [u8; Bench::BOARDS as usize] = [0, 2, 0, 0, 0, 0, 0];
+const NO_MARK: Marks = [0, 2, 0, 0, 0, 0, 0];
 
-const UNREAD: [u8; Bench::BOARDS as usize] = [0, 9, 9, 9, 9, 9, 9];
+const UNREAD: Marks = [0, 9, 9, 9, 9, 9, 9];
 
-// The schedules. An event is its six bytes: kind, a, b, id, and the value, high byte first: 2, 188 is 700, and
-// 2, 189 is 701. The opening of round 1 has identifier 1, its ballots have 2; round 2 has 3 and 4.
+// A step of a schedule: an event, and first the board that it is of.
+#[derive(Clone, Copy)]
+enum Step {
+    // with a value
+    Propose(u8, u16),
+    Turn(u8),
+    // it hears a speaker, under an identifier, with a value
+    Deliver(u8, u8, u8, u16),
+    // it is told that a board decided, in a round, a value
+    Announce(u8, u8, u8, u16),
+    // another board
+    Suspect(u8, u8),
+    // under an identifier, with a value
+    Sign(u8, u8, u16),
+    // an event of a kind that there is not
+    NoKind(u8),
+}
+
+// The schedules. The opening of round 1 has identifier 1, its ballots have 2; round 2 has 3 and 4.
 
 // A board alone.
-const ALONE: [[u8; Event::BYTES]; 4] = [
+const ALONE: &[Step] = &[
     // it proposes 700
-    [Kind::Propose as u8, 1, 0, 0, 2, 188],
+    Step::Propose(1, 700),
     // it opens round 1, votes, and decides by its own ballot
-    [Kind::Turn as u8, 1, 0, 0, 0, 0],
-    [Kind::Turn as u8, 1, 0, 0, 0, 0],
-    [Kind::Turn as u8, 1, 0, 0, 0, 0],
+    Step::Turn(1),
+    Step::Turn(1),
+    Step::Turn(1),
 ];
 
 // The incident, as in schedules/incident: board 2 was reset, and has to count as faulty.
-const INCIDENT: [[u8; Event::BYTES]; 23] = [
+const INCIDENT: &[Step] = &[
     // board 1 proposes set 41, opens round 1 with it, and votes for it
-    [Kind::Propose as u8, 1, 0, 0, 0, 41],
-    [Kind::Turn as u8, 1, 0, 0, 0, 0],
-    [Kind::Turn as u8, 1, 0, 0, 0, 0],
+    Step::Propose(1, 41),
+    Step::Turn(1),
+    Step::Turn(1),
     // so does board 2, and board 1 hears it
-    [Kind::Sign as u8, 2, 0, 2, 0, 41],
-    [Kind::Deliver as u8, 1, 2, 2, 0, 41],
+    Step::Sign(2, 2, 41),
+    Step::Deliver(1, 2, 2, 41),
     // board 3 is silent; board 1 suspects it, and decides 41 by the two ballots
-    [Kind::Suspect as u8, 1, 3, 0, 0, 0],
-    [Kind::Turn as u8, 1, 0, 0, 0, 0],
+    Step::Suspect(1, 3),
+    Step::Turn(1),
     // board 3 proposes set 40, and does not open round 1; it has heard nothing of board 1, suspects it, and votes blank
-    [Kind::Propose as u8, 3, 0, 0, 0, 40],
-    [Kind::Turn as u8, 3, 0, 0, 0, 0],
-    [Kind::Suspect as u8, 3, 1, 0, 0, 0],
-    [Kind::Turn as u8, 3, 0, 0, 0, 0],
+    Step::Propose(3, 40),
+    Step::Turn(3),
+    Step::Suspect(3, 1),
+    Step::Turn(3),
     // then it hears the opening of round 1 and board 1's ballot
-    [Kind::Deliver as u8, 3, 1, 1, 0, 41],
-    [Kind::Deliver as u8, 3, 1, 2, 0, 41],
+    Step::Deliver(3, 1, 1, 41),
+    Step::Deliver(3, 1, 2, 41),
     // it suspects board 2, whose ballot is still on its way, and goes on to round 2 with estimate 41
-    [Kind::Suspect as u8, 3, 2, 0, 0, 0],
-    [Kind::Turn as u8, 3, 0, 0, 0, 0],
+    Step::Suspect(3, 2),
+    Step::Turn(3),
     // board 2, fresh from its reset, opens round 2 with 40; board 3 does not open it, and hears that opening
-    [Kind::Sign as u8, 2, 0, 3, 0, 40],
-    [Kind::Turn as u8, 3, 0, 0, 0, 0],
-    [Kind::Deliver as u8, 3, 2, 3, 0, 40],
+    Step::Sign(2, 3, 40),
+    Step::Turn(3),
+    Step::Deliver(3, 2, 3, 40),
     // board 3 does not take 40: its ballot is blank
-    [Kind::Turn as u8, 3, 0, 0, 0, 0],
+    Step::Turn(3),
     // board 2 announces 40 in round 2, which has no ballot (21)
-    [Kind::Announce as u8, 3, 2, 2, 0, 40],
+    Step::Announce(3, 2, 2, 40),
     // board 1 announces 41 in round 1, of which board 3 has one ballot and needs two (21)
-    [Kind::Announce as u8, 3, 1, 1, 0, 41],
+    Step::Announce(3, 1, 1, 41),
     // board 2's ballot comes, and now the announcement is taken
-    [Kind::Deliver as u8, 3, 2, 2, 0, 41],
-    [Kind::Announce as u8, 3, 1, 1, 0, 41],
+    Step::Deliver(3, 2, 2, 41),
+    Step::Announce(3, 1, 1, 41),
 ];
 
 // Every answer to an event, from 10 to 22, on a bench of three boards whose third is faulty.
-const EVERY_ANSWER: [[u8; Event::BYTES]; 22] = [
+const EVERY_ANSWER: &[Step] = &[
     // 10: there is no such kind
-    [0, 1, 0, 0, 0, 0],
+    Step::NoKind(1),
     // 11: there is no fourth board
-    [Kind::Propose as u8, 4, 0, 0, 2, 188],
+    Step::Propose(4, 700),
     // 12: the blank cannot be proposed
-    [Kind::Propose as u8, 1, 0, 0, 0, 0],
+    Step::Propose(1, 0),
     // 13: a faulty board does not propose
-    [Kind::Propose as u8, 3, 0, 0, 2, 188],
+    Step::Propose(3, 700),
     // 14: no board suspects itself
-    [Kind::Suspect as u8, 1, 1, 0, 0, 0],
+    Step::Suspect(1, 1),
     // 15: board 1 has not started
-    [Kind::Turn as u8, 1, 0, 0, 0, 0],
+    Step::Turn(1),
     // board 1 proposes 700, opens round 1 and votes
-    [Kind::Propose as u8, 1, 0, 0, 2, 188],
-    [Kind::Turn as u8, 1, 0, 0, 0, 0],
-    [Kind::Turn as u8, 1, 0, 0, 0, 0],
+    Step::Propose(1, 700),
+    Step::Turn(1),
+    Step::Turn(1),
     // board 3 votes for 700 too, which board 1 hears; it suspects board 2, and decides
-    [Kind::Sign as u8, 3, 0, 2, 2, 188],
-    [Kind::Deliver as u8, 1, 3, 2, 2, 188],
-    [Kind::Suspect as u8, 1, 2, 0, 0, 0],
-    [Kind::Turn as u8, 1, 0, 0, 0, 0],
+    Step::Sign(3, 2, 700),
+    Step::Deliver(1, 3, 2, 700),
+    Step::Suspect(1, 2),
+    Step::Turn(1),
     // 16: it has decided, and has no turn any more
-    [Kind::Turn as u8, 1, 0, 0, 0, 0],
+    Step::Turn(1),
     // 17: board 3 signed 700 in its ballot, not 701
-    [Kind::Deliver as u8, 2, 3, 2, 2, 189],
+    Step::Deliver(2, 3, 2, 701),
     // 18: and can sign no other ballot
-    [Kind::Sign as u8, 3, 0, 2, 2, 189],
+    Step::Sign(3, 2, 701),
     // 19: board 1 has this ballot already
-    [Kind::Deliver as u8, 1, 3, 2, 2, 188],
+    Step::Deliver(1, 3, 2, 700),
     // board 2 proposes 701
-    [Kind::Propose as u8, 2, 0, 0, 2, 189],
+    Step::Propose(2, 701),
     // 20: board 1 is sound, and decided 700, not 701
-    [Kind::Announce as u8, 2, 1, 1, 2, 189],
+    Step::Announce(2, 1, 1, 701),
     // 21: it did decide 700 in round 1, but board 2 has none of the ballots
-    [Kind::Announce as u8, 2, 1, 1, 2, 188],
+    Step::Announce(2, 1, 1, 700),
     // board 2 does not open round 1
-    [Kind::Turn as u8, 2, 0, 0, 0, 0],
+    Step::Turn(2),
     // 22: it waits for the opening, since it does not suspect board 1
-    [Kind::Turn as u8, 2, 0, 0, 0, 0],
+    Step::Turn(2),
 ];
 
 // Two faulty boards of three.
-const TWO_FAULTY: [[u8; Event::BYTES]; 17] = [
+const TWO_FAULTY: &[Step] = &[
     // board 1 proposes 700, opens round 1 and votes
-    [Kind::Propose as u8, 1, 0, 0, 2, 188],
-    [Kind::Turn as u8, 1, 0, 0, 0, 0],
-    [Kind::Turn as u8, 1, 0, 0, 0, 0],
+    Step::Propose(1, 700),
+    Step::Turn(1),
+    Step::Turn(1),
     // the others vote blank, and board 1 hears both
-    [Kind::Sign as u8, 2, 0, 2, 0, 0],
-    [Kind::Sign as u8, 3, 0, 2, 0, 0],
-    [Kind::Deliver as u8, 1, 2, 2, 0, 0],
-    [Kind::Deliver as u8, 1, 3, 2, 0, 0],
+    Step::Sign(2, 2, 0),
+    Step::Sign(3, 2, 0),
+    Step::Deliver(1, 2, 2, 0),
+    Step::Deliver(1, 3, 2, 0),
     // it goes on to round 2, which it does not open
-    [Kind::Turn as u8, 1, 0, 0, 0, 0],
-    [Kind::Turn as u8, 1, 0, 0, 0, 0],
+    Step::Turn(1),
+    Step::Turn(1),
     // board 2 opens round 2 with 50, which two blank ballots allow; board 1 votes for it
-    [Kind::Sign as u8, 2, 0, 3, 0, 50],
-    [Kind::Deliver as u8, 1, 2, 3, 0, 50],
-    [Kind::Turn as u8, 1, 0, 0, 0, 0],
+    Step::Sign(2, 3, 50),
+    Step::Deliver(1, 2, 3, 50),
+    Step::Turn(1),
     // so does board 3, and board 1 hears it
-    [Kind::Sign as u8, 3, 0, 4, 0, 50],
-    [Kind::Deliver as u8, 1, 3, 4, 0, 50],
+    Step::Sign(3, 4, 50),
+    Step::Deliver(1, 3, 4, 50),
     // board 1 has two ballots, but waits for that of board 2 (22), until it suspects it; then it decides 50
-    [Kind::Turn as u8, 1, 0, 0, 0, 0],
-    [Kind::Suspect as u8, 1, 2, 0, 0, 0],
-    [Kind::Turn as u8, 1, 0, 0, 0, 0],
+    Step::Turn(1),
+    Step::Suspect(1, 2),
+    Step::Turn(1),
 ];
 
 // A statement of board 1 reaches the others.
-const ECHO: [[u8; Event::BYTES]; 4] = [
+const ECHO: &[Step] = &[
     // board 1 proposes 700 and opens round 1: a copy is owed to boards 2 and 3
-    [Kind::Propose as u8, 1, 0, 0, 2, 188],
-    [Kind::Turn as u8, 1, 0, 0, 0, 0],
+    Step::Propose(1, 700),
+    Step::Turn(1),
     // board 2 hears it; the copy to board 3 is owed still
-    [Kind::Deliver as u8, 2, 1, 1, 2, 188],
+    Step::Deliver(2, 1, 1, 700),
     // board 3 hears it
-    [Kind::Deliver as u8, 3, 1, 1, 2, 188],
+    Step::Deliver(3, 1, 1, 700),
 ];
 
-// The most events of a schedule here.
-const EVENTS: usize = 23;
+// The most steps of a schedule here, which there are buffers for: the incident is the longest.
+const STEPS: usize = INCIDENT.len();
+
+impl Step {
+    // Its event; a field that it does not have is 0.
+    fn event(self) -> Event {
+        let (kind, a, b, id, value) = match self {
+            Step::Propose(k, value) => (Kind::Propose as u8, k, 0, 0, value),
+            Step::Turn(k) => (Kind::Turn as u8, k, 0, 0, 0),
+            Step::Deliver(k, speaker, id, value) => (Kind::Deliver as u8, k, speaker, id, value),
+            Step::Announce(k, other, round, value) => (
+                Kind::Announce as u8,
+                k,
+                other,
+                round,
+                value,
+            ),
+            Step::Suspect(k, other) => (Kind::Suspect as u8, k, other, 0, 0),
+            Step::Sign(k, id, value) => (Kind::Sign as u8, k, 0, id, value),
+            Step::NoKind(k) => (0, k, 0, 0, 0),
+        };
+        Event {
+            kind,
+            a,
+            b,
+            id,
+            value,
+        }
+    }
+
+    // The event's bytes in a schedule.
+    fn bytes(self) -> [u8; Event::BYTES] {
+        let e = self.event();
+        let [high, low] = e.value.to_be_bytes();
+        [e.kind, e.a, e.b, e.id, high, low]
+    }
+}
+
+// The bytes of a schedule, one event after another; after them, zeros.
+fn bytes_of(steps: &[Step]) -> [u8; STEPS * Event::BYTES] {
+    let mut bytes = [0u8; STEPS * Event::BYTES];
+    let (events, _) = bytes.as_chunks_mut::<{ Event::BYTES }>();
+    for (event, step) in events.iter_mut().zip(steps) {
+        *event = step.bytes();
+    }
+    bytes
+}
 
 // The answers to events, each with the event's number.
 fn write_answers(rt: &HostRuntime, answers: &[u8]) -> io::Result<()> {
     for (k, answer) in answers.iter().enumerate() {
-        let number = k + 1;
-        println!(rt; "{number} {answer}")?;
+        println!(rt; "{} {answer}", k + 1)?;
     }
     Ok(())
 }
@@ -177,234 +240,174 @@ fn write_boards(rt: &HostRuntime, bench: &Bench) -> io::Result<()> {
     for k in 1..=bench.n {
         let shown = bench.shown(k);
         let letter = shown.letter.byte() as char;
-        let round = shown.round.0;
-        let value = shown.value;
-        println!(rt; "{k} {letter} {round} {value}")?;
+        println!(rt; "{k} {letter} {} {}", shown.round.0, shown.value)?;
     }
     Ok(())
 }
 
-// How many copies of a speaker's statements are owed.
-fn owed_of(bench: &Bench, speaker: u8) -> u16 {
-    let mut copies = 0u16;
-    for id in 1..=Identifier::LAST {
-        copies += u16::from(bench.owed(speaker, Identifier(id)).count(Bench::BOARDS));
-    }
-    copies
-}
-
-// How many copies are owed.
-fn owed(bench: &Bench) -> u64 {
-    let mut copies = 0u64;
+// How many copies are owed. Two loops, no chain: that its `sum` fits did not prove.
+fn owed(bench: &Bench) -> u32 {
+    let mut copies = 0;
     for k in 1..=Bench::BOARDS {
-        copies += u64::from(owed_of(bench, k));
-    }
-    copies
-}
-
-// Plays a list of events into a fresh bench, with so much room for the answers, and writes what came of it.
-#[tactic(auto, using(crate::proofs::Rules::rules_play))]
-fn play(
-    rt: &HostRuntime,
-    title: &str,
-    n: u8,
-    marks: [u8; Bench::BOARDS as usize],
-    events: &[u8],
-    answers: &mut [u8],
-) -> io::Result<()> {
-    print!(rt; "{title}")?;
-    let played = Bench::play(n, marks, events, answers);
-    println!(rt; "fresh {}", number_of(played.answer))?;
-    match played.ending {
-        Ok(()) => write_answers(rt, &answers[..events.len() / Event::BYTES])?,
-        Err(Unplayed::Ragged) => println!(rt; "not played: ragged")?,
-        Err(Unplayed::Short) => println!(rt; "not played: short")?,
-    }
-    write_boards(rt, &played.bench)?;
-    let copies = owed(&played.bench);
-    println!(rt; "owed {copies}")
-}
-
-// The bytes of a schedule, one event after another; after them, zeros.
-fn bytes_of(schedule: &[[u8; Event::BYTES]]) -> [u8; EVENTS * Event::BYTES] {
-    let mut bytes = [0u8; EVENTS * Event::BYTES];
-    for (at, byte) in bytes.iter_mut().enumerate() {
-        if at / Event::BYTES < schedule.len() {
-            *byte = schedule[at / Event::BYTES][at % Event::BYTES];
+        for id in 1..=Identifier::LAST {
+            copies += u32::from(bench.owed(k, Identifier(id)).count(Bench::BOARDS));
         }
     }
-    bytes
+    copies
 }
 
-// Plays so many bytes of a schedule, with room for so many answers; nothing if it is more than the longest here needs.
-fn play_part(
-    rt: &HostRuntime,
-    title: &str,
+// What is played into a fresh bench: the first so many bytes of a schedule, with room for so many answers.
+#[derive(Clone, Copy)]
+struct Case<'a> {
+    title: &'a str,
     n: u8,
-    marks: [u8; Bench::BOARDS as usize],
-    schedule: &[[u8; Event::BYTES]],
+    marks: Marks,
+    steps: &'a [Step],
     bytes: usize,
     room: usize,
-) -> io::Result<()> {
-    let events = bytes_of(schedule);
-    let mut answers = [0u8; EVENTS];
-    if bytes > events.len() {
-        return Ok(());
-    }
-    if room > answers.len() {
-        return Ok(());
-    }
-    play(rt, title, n, marks, &events[..bytes], &mut answers[..room])
 }
 
-// Plays a schedule, with room enough for its answers.
-fn play_schedule(
-    rt: &HostRuntime,
-    title: &str,
-    n: u8,
-    marks: [u8; Bench::BOARDS as usize],
-    schedule: &[[u8; Event::BYTES]],
-) -> io::Result<()> {
-    let bytes = schedule.len() * Event::BYTES;
-    play_part(rt, title, n, marks, schedule, bytes, EVENTS)
+impl<'a> Case<'a> {
+    // A whole schedule, with room enough.
+    fn whole(title: &'a str, n: u8, marks: Marks, steps: &'a [Step]) -> Case<'a> {
+        Case {
+            title,
+            n,
+            marks,
+            steps,
+            bytes: steps.len() * Event::BYTES,
+            room: STEPS,
+        }
+    }
+
+    // Plays it, of no more than there are buffers for, and writes what came of it.
+    fn play(&self, rt: &HostRuntime) -> io::Result<()> {
+        println!(rt; "{}", self.title)?;
+        let bytes = bytes_of(self.steps);
+        let events = &bytes[..self.bytes.min(bytes.len())];
+        let mut answers = [0u8; STEPS];
+        let played = Bench::play(
+            self.n,
+            self.marks,
+            events,
+            &mut answers[..self.room.min(STEPS)],
+        );
+        println!(rt; "fresh {}", number_of(played.answer))?;
+        match played.ending {
+            Ok(()) => write_answers(rt, &answers[..events.len() / Event::BYTES])?,
+            Err(Unplayed::Ragged) => println!(rt; "not played: ragged")?,
+            Err(Unplayed::Short) => println!(rt; "not played: short")?,
+        }
+        write_boards(rt, &played.bench)?;
+        println!(rt; "owed {}", owed(&played.bench))
+    }
+}
+
+// Plays one case after another.
+fn play(rt: &HostRuntime, cases: &[Case]) -> io::Result<()> {
+    for case in cases {
+        case.play(rt)?;
+    }
+    Ok(())
 }
 
 // Whole votes.
 fn votes(rt: &HostRuntime) -> io::Result<()> {
-    let alone = ALONE;
-    play_schedule(rt, "one board\n", 1, NONE, &alone)?;
-    let incident = INCIDENT;
-    play_schedule(
+    play(
         rt,
-        "the incident, of three boards of which the second is faulty: its ballot of round 1 is on the way\n",
-        3,
-        SECOND,
-        &incident[..19],
-    )?;
-    play_schedule(rt, "the incident to its end\n", 3, SECOND, &incident)?;
-    let every = EVERY_ANSWER;
-    play_schedule(
-        rt,
-        "every answer: of three boards the third is faulty\n",
-        3,
-        THIRD,
-        &every,
-    )?;
-    let two = TWO_FAULTY;
-    play_schedule(
-        rt,
-        "two faulty boards of three\n",
-        3,
-        SECOND_AND_THIRD,
-        &two,
+        &[
+            Case::whole("one board", 1, NONE, ALONE),
+            Case::whole(
+                "the incident, of three boards of which the second is faulty: its ballot of round 1 is on the way",
+                3,
+                SECOND,
+                &INCIDENT[..19],
+            ),
+            Case::whole("the incident to its end", 3, SECOND, INCIDENT),
+            Case::whole(
+                "every answer: of three boards the third is faulty",
+                3,
+                THIRD,
+                EVERY_ANSWER,
+            ),
+            Case::whole(
+                "two faulty boards of three",
+                3,
+                SECOND_AND_THIRD,
+                TWO_FAULTY,
+            ),
+        ],
     )
 }
 
 // Calls for a fresh bench: three that are refused, and get the bench of one sound board, and one that is not.
 fn calls(rt: &HostRuntime) -> io::Result<()> {
-    let alone = ALONE;
-    play_schedule(rt, "no boards\n", 0, NONE, &alone)?;
-    play_schedule(rt, "nine boards\n", 9, NONE, &alone)?;
-    play_schedule(
+    play(
         rt,
-        "the second of two boards has the mark 2\n",
-        2,
-        NO_MARK,
-        &alone,
-    )?;
-    play_schedule(
-        rt,
-        "one board, and after its mark there are some that are none\n",
-        1,
-        UNREAD,
-        &alone,
+        &[
+            Case::whole("no boards", 0, NONE, ALONE),
+            Case::whole("nine boards", 9, NONE, ALONE),
+            Case::whole("the second of two boards has the mark 2", 2, NO_MARK, ALONE),
+            Case::whole(
+                "one board, and after its mark there are some that are none",
+                1,
+                UNREAD,
+                ALONE,
+            ),
+        ],
     )
 }
 
 // The copies that are owed, after two, three and four events.
 fn copies(rt: &HostRuntime) -> io::Result<()> {
-    let echo = ECHO;
-    play_schedule(
+    play(
         rt,
-        "three sound boards: board 1 opens round 1\n",
-        3,
-        NONE,
-        &echo[..2],
-    )?;
-    play_schedule(rt, "and board 2 hears it\n", 3, NONE, &echo[..3])?;
-    play_schedule(rt, "and board 3 hears it\n", 3, NONE, &echo)
-}
-
-// Board 1 proposes 700.
-fn proposal() -> Event {
-    Event {
-        kind: Kind::Propose as u8,
-        a: 1,
-        b: 0,
-        id: 0,
-        value: 700,
-    }
-}
-
-// Board 1 takes its turn.
-fn turn() -> Event {
-    Event {
-        kind: Kind::Turn as u8,
-        a: 1,
-        b: 0,
-        id: 0,
-        value: 0,
-    }
+        &[
+            Case::whole(
+                "three sound boards: board 1 opens round 1",
+                3,
+                NONE,
+                &ECHO[..2],
+            ),
+            Case::whole("and board 2 hears it", 3, NONE, &ECHO[..3]),
+            Case::whole("and board 3 hears it", 3, NONE, ECHO),
+        ],
+    )
 }
 
 // Board 1 opens round 1 with 700: what it has signed so, and what boards 1 and 2 have delivered of it. A log's entry is
 // one more than the value, and 0 where there is none.
 fn opening(rt: &HostRuntime) -> io::Result<()> {
     let bench = Bench::fresh(3, NONE).bench;
-    let proposed = bench.event(proposal()).bench;
-    let opened = proposed.event(turn()).bench;
+    let proposed = bench.event(Step::Propose(1, 700).event()).bench;
+    let opened = proposed.event(Step::Turn(1).event()).bench;
     let id = Identifier(1);
-    let signed = opened.signed(1, id);
-    let first = opened.delivered(1, 1, id);
-    let second = opened.delivered(2, 1, id);
     println!(rt; "board 1 opens round 1 with 700")?;
-    println!(rt; "signed {signed}")?;
-    println!(rt; "delivered by 1 {first}")?;
-    println!(rt; "delivered by 2 {second}")
+    println!(rt; "signed {}", opened.signed(1, id))?;
+    println!(rt; "delivered by 1 {}", opened.delivered(1, 1, id))?;
+    println!(rt; "delivered by 2 {}", opened.delivered(2, 1, id))
 }
 
 // Lists that cannot be played: one event and a byte, and four events with room for three answers.
 fn not_played(rt: &HostRuntime) -> io::Result<()> {
-    let alone = ALONE;
-    play_part(
+    play(
         rt,
-        "an event and a byte\n",
-        1,
-        NONE,
-        &alone,
-        Event::BYTES + 1,
-        EVENTS,
-    )?;
-    play_part(
-        rt,
-        "four events, and room for three answers\n",
-        1,
-        NONE,
-        &alone,
-        4 * Event::BYTES,
-        3,
+        &[
+            Case {
+                bytes: Event::BYTES + 1,
+                ..Case::whole("an event and a byte", 1, NONE, ALONE)
+            },
+            Case {
+                room: 3,
+                ..Case::whole("four events, and room for three answers", 1, NONE, ALONE)
+            },
+        ],
     )
 }
 
 // What an event is answered on a fresh bench, after another one and after itself so many times.
 #[tactic(auto, using(crate::proofs::Rules::rules_answer_after))]
-fn answer_after(
-    n: u8,
-    marks: [u8; Bench::BOARDS as usize],
-    first: Event,
-    again: Event,
-    times: u8,
-) -> Result<(), Refusal>
+fn answer_after(n: u8, marks: Marks, first: Event, again: Event, times: u8) -> Result<(), Refusal>
     ensures { result ≡ (step_of limits (after limits (fresh_bench limits n marks) (first ∷ replicate times again)) again).answer }
 {
     let mut bench = Bench::fresh(n, marks).bench;
@@ -417,11 +420,11 @@ fn answer_after(
 
 // A board alone proposes 700. With its third turn it decides, and a fourth is refused.
 fn later_turns(rt: &HostRuntime) -> io::Result<()> {
+    let propose = Step::Propose(1, 700).event();
+    let turn = Step::Turn(1).event();
     println!(rt; "one board: its third turn, and its fourth")?;
-    let third = number_of(answer_after(1, NONE, proposal(), turn(), 2));
-    println!(rt; "4 {third}")?;
-    let fourth = number_of(answer_after(1, NONE, proposal(), turn(), 3));
-    println!(rt; "5 {fourth}")
+    println!(rt; "4 {}", number_of(answer_after(1, NONE, propose, turn, 2)))?;
+    println!(rt; "5 {}", number_of(answer_after(1, NONE, propose, turn, 3)))
 }
 
 fn main(rt: HostRuntime) -> io::Result<()> {
