@@ -5,7 +5,7 @@ use Rattle.delivery.proofs.OneRoundLaws.{backs-nothing, backs-value, reads-bears
 use Rattle.delivery.proofs.OwedLaws.{delivery-set, nobody-at, signing-set, with-at, with-nobody}
 use Rattle.delivery.proofs.PassLaws.{allows-every, allows-low, allows-nothing, allows-only, alone, backs-test, bearing-found, every-nobody, every_first, joined, nothing_before, pass-opened, pass-unopened}
 use Rattle.delivery.proofs.PlaceLaws.{index-high, index-nobody, index-outside, index-there}
-use Rattle.delivery.proofs.SetLaws.{count_set, in-index, in-unnumbered, minus-without, ones-every, ones-masked, or-union, set-none, set-take, shifted-alone, union-alone, with-unnumbered, xor-minus}
+use Rattle.delivery.proofs.SetLaws.{and_not-minus, count_set, in-index, in-unnumbered, minus-without, ones-every, ones-masked, or-union, set-none, set-take, shifted-alone, union-alone, with-unnumbered}
 use Rattle.signer.proofs.FromOneLaws.{get_none, get_some, within-high, within_low}
 
 pub ruleset rules_round_round_identifier = (within-high, within_low)
@@ -14,7 +14,7 @@ pub ruleset rules_set_boardset_count = (ones-masked, ones-every)
 
 pub ruleset rules_set_boardset_contains = (within_low, within-high, in-index, in-unnumbered)
 
-pub ruleset rules_set_boardset_minus = (xor-minus)
+pub ruleset rules_set_boardset_minus = (and_not-minus)
 
 pub ruleset rules_set_boardset_union = (or-union)
 

@@ -24,23 +24,10 @@ use borrow.Author.Tests.{eq-eqb, ne_eqb}
 use lib.Dec.{eqb}
 use lib.Arith.{digits_lt}
 use lib.Pow.{pow_pos, pow_mono, pow-lt, shl_exact, high, low, field, mod-mod-pow, mod-pow-add}
-use lib.Bits.{
-  and_mask,
-  bit_and,
-  bit_or,
-  bit_xor,
-  and_shr,
-  or_shr,
-  xor_shr,
-  and_mod,
-  or_mod,
-  xor_mod,
-  and_le_l,
-  or_lt,
-  xor_lt,
-  or_shifted_r,
-}
+use lib.Bits.{and_mask, bit_and, bit_or, and_shr, or_shr, and_mod, or_mod, and_le_l, or_lt, or_shifted_r}
 use lib.Count.{ones, ones_cat}
+use Rattle.std.specs.Int.{w16}
+use Rattle.std.proofs.lemmas.Nat.Bits.{bit_at_not}
 use Rattle.std.specs.Prelude.{if◌then◌else◌}
 use Rattle.signer.specs.FromOne.{is_within}
 use Rattle.signer.proofs.ConditionalLaws.{if-true, if-false}
@@ -230,15 +217,6 @@ and-digits (suc zero) (suc zero) h l = refl
 and-digits (suc zero) (suc (suc y)) h l = absurd (omega arith)
 and-digits (suc (suc x)) y h l = absurd (omega arith)
 
-xor-digits : (x y : ℕ) → x < 2 → y < 2
-    → eqb (bit_xor x y) 1 ≡ (eqb x 1 and neg (eqb y 1) or neg (eqb x 1) and eqb y 1)
-unfolding ◌and◌ ◌or◌ neg
-xor-digits zero y h l = refl
-xor-digits (suc zero) zero h l = refl
-xor-digits (suc zero) (suc zero) h l = refl
-xor-digits (suc zero) (suc (suc y)) h l = absurd (omega arith)
-xor-digits (suc (suc x)) y h l = absurd (omega arith)
-
 in-or : (a b k : ℕ) → in_set (bit_or a b) k ≡ (in_set a k or in_set b k)
 unfolding in_set ◌or◌
 in-or a b zero = refl
@@ -254,14 +232,6 @@ in_and a b (suc k) =
     ap (λ (x : ℕ). eqb (x % 2) 1) (and_shr a b k)
     ∙ ap (λ (x : ℕ). eqb x 1) (and_mod (a / 2 ^ k) (b / 2 ^ k) 1)
     ∙ and-digits (a / 2 ^ k % 2) (b / 2 ^ k % 2) (odd-lt (a / 2 ^ k)) (odd-lt (b / 2 ^ k))
-
-in-xor : (a b k : ℕ) → in_set (bit_xor a b) k ≡ (in_set a k and neg (in_set b k) or neg (in_set a k) and in_set b k)
-unfolding in_set ◌and◌ ◌or◌ neg
-in-xor a b zero = refl
-in-xor a b (suc k) =
-    ap (λ (x : ℕ). eqb (x % 2) 1) (xor_shr a b k)
-    ∙ ap (λ (x : ℕ). eqb x 1) (xor_mod (a / 2 ^ k) (b / 2 ^ k) 1)
-    ∙ xor-digits (a / 2 ^ k % 2) (b / 2 ^ k % 2) (odd-lt (a / 2 ^ k)) (odd-lt (b / 2 ^ k))
 
 -- how many boards of 1 to n are in a set: the bits that are 1; and in a set of 1 to k
 ones-digit : (d x : ℕ) → d < 2 → ones d + x ≡ plus (eqb d 1) x
@@ -388,21 +358,28 @@ with_none m k l h =
     l
     (λ j s t. sym (or-no-right (in_set m j) (eqb j k) (ne_eqb j k (λ e. omega (arith, h (omega arith)))))))
 
-less : (a b : Bool) → (a and neg (a and b) or neg a and a and b) ≡ (a and neg b)
-unfolding ◌and◌ ◌or◌ neg
-less true true = refl
-less true false = refl
-less false b = refl
+-- every bit turned over: a board is in the set where it is not in b
+not-digit : (d : ℕ) → d < 2 → eqb (1 - d) 1 ≡ neg (eqb d 1)
+unfolding neg
+not-digit zero h = refl
+not-digit (suc zero) h = refl
+not-digit (suc (suc d)) h = absurd (omega arith)
 
-pub xor-minus : (a b : ℕ) → a < 2 ^ bits → bit_xor a (bit_and a b) ≡ minus a b
+in_not : (b k : ℕ) → b < 2 ^ bits → 1 ≤ k → k ≤ bits → in_set (2 ^ bits - 1 - b) k ≡ neg (in_set b k)
+unfolding in_set
+in_not b zero l s t = absurd (omega arith)
+in_not b (suc k) l s t =
+    ap (λ (x : ℕ). eqb x 1) (bit_at_not w16 b k l (omega arith)) ∙ not-digit (b / 2 ^ k % 2) (odd-lt (b / 2 ^ k))
+
+pub and_not-minus : (a b : ℕ) → a < 2 ^ bits → b < 2 ^ bits → bit_and a (2 ^ bits - 1 - b) ≡ minus a b
 unfolding minus
-xor-minus a b l =
+and_not-minus a b l m =
     set_is
     bits
-    (bit_xor a (bit_and a b))
+    (bit_and a (2 ^ bits - 1 - b))
     (λ (i : ℕ). in_set a i and neg (in_set b i))
-    (xor_lt bits a (bit_and a b) l (lt_of_le_of_lt (and_le_l a b) l))
-    (λ k s t. in-xor a (bit_and a b) k ∙ rw (in_and a b k) (less (in_set a k) (in_set b k)))
+    (lt_of_le_of_lt (and_le_l a (2 ^ bits - 1 - b)) l)
+    (λ k s t. in_and a (2 ^ bits - 1 - b) k ∙ ap (λ (x : Bool). in_set a k and x) (in_not b k m s t))
 
 pub minus-without : (m k : ℕ) → minus m (with_board 0 k) ≡ without_board m k
 unfolding minus without_board ◌or◌

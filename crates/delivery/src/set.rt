@@ -103,8 +103,7 @@ impl BoardSet {
         ensures { result ≡ minus self other }
     {
         BoardSet {
-            // that is `a & !b`, of which the proof did not close
-            mask: self.mask ^ (self.mask & other.mask),
+            mask: self.mask & !other.mask,
         }
     }
 
