@@ -144,6 +144,14 @@ unfolding answer_number
 answer-within (Ok _) = inl refl
 answer-within (Err r) = refusal-within r
 
+pub no_bus-is : setup_number NoBus ≡ 2
+unfolding setup_number
+no_bus-is = refl
+
+pub no_mark-is : setup_number NoMark ≡ 3
+unfolding setup_number
+no_mark-is = refl
+
 pub fresh-within : (a : Result (Unit {0}) SetupFault) → (fresh_number a ≡ 0) ⊎ ((2 ≤ fresh_number a) × (fresh_number a ≤ 3))
 unfolding fresh_number setup_number
 fresh-within (Ok _) = inl refl

@@ -9,22 +9,23 @@ pub enum SetupFault {
     NoMark = 3,
 }
 
-// Why an event is refused: the first row of the table that applies.
+// Why an event is refused: the first row of the table that applies, by its number. Those that a board gives to its turn have
+// the vote's.
 #[derive(Clone, Copy, Debug, PartialEq, Eq)]
 pub enum Refusal {
-    NoKind,
-    NoBoard,
-    WrongField,
-    WrongMark,
-    SameBoard,
-    WrongStart,
-    AtEnd,
-    NotSigned,
-    NotAbove,
-    AlreadyDelivered,
-    NotDecided,
-    FewBallots,
-    MustWait,
+    NoKind = 10,
+    NoBoard = 11,
+    WrongField = 12,
+    WrongMark = 13,
+    SameBoard = 14,
+    WrongStart = TurnRefusal::NotStarted as isize,
+    AtEnd = TurnRefusal::Ended as isize,
+    NotSigned = 17,
+    NotAbove = 18,
+    AlreadyDelivered = 19,
+    NotDecided = 20,
+    FewBallots = 21,
+    MustWait = TurnRefusal::Waiting as isize,
 }
 
 impl Numbered for SetupFault {
@@ -39,24 +40,8 @@ impl Numbered for SetupFault {
 impl Numbered for Refusal {
     ghost number_in_table = { refusal_number };
 
-    // By a `match`: the kit takes the vote's as the enum's own numbers too, `WrongStart = TurnRefusal::NotStarted as isize`, but
-    // the proof of `self as u8` did not close, since the vote's laws do not say which numbers they are.
-    #[tactic(auto, unfolding(crate::specs::Answers::refusal_number))]
+    #[tactic(auto, using(crate::proofs::Rules::rules_turn_numbers), unfolding(crate::specs::Answers::refusal_number))]
     fn number(self) -> u8 {
-        match self {
-            Refusal::NoKind => 10,
-            Refusal::NoBoard => 11,
-            Refusal::WrongField => 12,
-            Refusal::WrongMark => 13,
-            Refusal::SameBoard => 14,
-            Refusal::WrongStart => TurnRefusal::NotStarted.number(),
-            Refusal::AtEnd => TurnRefusal::Ended.number(),
-            Refusal::NotSigned => 17,
-            Refusal::NotAbove => 18,
-            Refusal::AlreadyDelivered => 19,
-            Refusal::NotDecided => 20,
-            Refusal::FewBallots => 21,
-            Refusal::MustWait => TurnRefusal::Waiting.number(),
-        }
+        self as u8
     }
 }

@@ -7,14 +7,14 @@ use Rattle.schedule.specs.Files.{fault_number, file_number}
 use Rattle.schedule.specs.Demands.{IsFileRow}
 use Rattle.schedule.specs.declared.fault.Fault.{Fault}
 use Rattle.schedule.specs.declared.fault.Fault.TheVariants.{EndsEarly, NoBus, NoMark, TooMany, LeftOver}
-use Rattle.schedule.proofs.ExampleNumbers.{no-bus, no-mark}
+use Rattle.bench.proofs.AnswerLaws.{no_bus-is, no_mark-is}
 
 -- the number of every fault is a row's; two are the bench's
 pub fault-row : (w : Fault) → IsFileRow (fault_number w)
 unfolding fault_number
 fault-row EndsEarly = (omega arith, omega arith)
-fault-row NoBus = (omega (arith, no-bus), omega (arith, no-bus))
-fault-row NoMark = (omega (arith, no-mark), omega (arith, no-mark))
+fault-row NoBus = (omega (arith, no_bus-is), omega (arith, no_bus-is))
+fault-row NoMark = (omega (arith, no_mark-is), omega (arith, no_mark-is))
 fault-row TooMany = (omega arith, omega arith)
 fault-row LeftOver = (omega arith, omega arith)
 

@@ -1,8 +1,7 @@
--- Laws of a file's answers (ExampleNumbers, FaultLaws), of reading (ReadingLaws), of a schedule laid out in bytes (LayoutLaws), of how much
+-- Laws of a file's answers (FaultLaws), of reading (ReadingLaws), of a schedule laid out in bytes (LayoutLaws), of how much
 -- of a file is looked at (PrefixLaws), of the two sections and the whole file (SectionLaws, FileLaws), of what is printed
 -- (PrintLaws) and of playing a file that was read (PlayLaws). Then the letters a to l (ExampleLaws), and demands 1 and 2
 -- for files (Demands).
-pub mod ExampleNumbers
 pub mod FaultLaws
 pub mod ReadingLaws
 pub mod LayoutLaws

@@ -1,5 +1,5 @@
 -- For each function, the laws that its proof goes by.
-use Rattle.schedule.proofs.ExampleNumbers.{no-bus, no-mark}
+use Rattle.bench.proofs.AnswerLaws.{no_bus-is, no_mark-is}
 use Rattle.schedule.proofs.PlayLaws.{start-taken}
 use Rattle.schedule.proofs.FileLaws.{bus-none, bus-some, section-within}
 use Rattle.schedule.proofs.PrintLaws.{board-within, decimal-std, event-within, refused-within, report-short}
@@ -13,7 +13,7 @@ pub ruleset rules_bus_bus_read_marks = (marks-start, marks-cut, marks-wrong)
 
 pub ruleset rules_file_schedule_read = (section-within)
 
-pub ruleset rules_fault = (no-bus, no-mark)
+pub ruleset rules_fault = (no_bus-is, no_mark-is)
 
 pub ruleset rules_report_report_of = (start-taken)
 

@@ -87,6 +87,19 @@ refusal-within NotStarted = (omega arith, omega arith)
 refusal-within Ended = (omega arith, omega arith)
 refusal-within Waiting = (omega arith, omega arith)
 
+-- and which they are
+pub not_started-is : turn_number NotStarted ≡ 15
+unfolding turn_number
+not_started-is = refl
+
+pub ended-is : turn_number Ended ≡ 16
+unfolding turn_number
+ended-is = refl
+
+pub waiting-is : turn_number Waiting ≡ 22
+unfolding turn_number
+waiting-is = refl
+
 -- whose turn is not taken: one that has not started, and one that is decided or spent
 ended-turn : (L : Limits) (n me : ℕ) (b : Board) (s : Status) → is_ended s ≡ true → turn_in L n me b s ≡ refuse b Ended
 unfolding is_ended turn_in
