@@ -1,4 +1,4 @@
-ghost use Rattle.std.specs.Prelude.{◌-◌, ◌*◌, ◌≤◌, ◌≡◌, length};
+ghost use Rattle.std.specs.Prelude.{◌-◌, ◌/◌, ◌≤◌, ◌≡◌, length};
 ghost use Rattle.delivery.specs.Limits.{limits};
 ghost use Rattle.bench.specs.Events.{event_bytes};
 ghost use Rattle.bench.specs.Runs.{events_in, after, answers_to, written, ending_of, played_of, answers_after};
@@ -41,16 +41,15 @@ fn ending_of(bytes: usize, room: usize) -> Result<(), Unplayed>
 }
 
 impl Bench {
-    // Plays so many events, and writes their answers.
+    // Plays the events of a list, and writes their answers; bytes that are no whole event are not read.
     #[tactic(auto, using(crate::proofs::Rules::rules_bench_bench_run))]
-    fn run(&mut self, count: usize, events: &[u8], answers: &mut [u8])
-        requires bytes { event_bytes * count ≤ length events.now }
-        requires room { count ≤ length answers.old }
-        ensures bench { self.new ≡ after limits self.old (events_in count events.now) }
-        ensures answers { answers.new ≡ written (answers_to limits self.old (events_in count events.now)) answers.old }
+    fn run(&mut self, events: &[u8], answers: &mut [u8])
+        requires { length events.now / event_bytes ≤ length answers.old }
+        ensures bench { self.new ≡ after limits self.old (events_in (length events.now / event_bytes) events.now) }
+        ensures answers { answers.new ≡ written (answers_to limits self.old (events_in (length events.now / event_bytes) events.now)) answers.old }
     {
-        for k in 0..count {
-            let event = Event::read(&events[Event::BYTES * k..]);
+        for (k, bytes) in events.chunks_exact(Event::BYTES).enumerate() {
+            let event = Event::read(bytes);
             answers[k] = number_of(self.step(event));
         }
     }
@@ -73,7 +72,7 @@ impl Bench {
         let mut bench = fresh.bench;
         let ending = ending_of(events.len(), answers.len());
         if ending.is_ok() {
-            bench.run(events.len() / Event::BYTES, events, answers);
+            bench.run(events, answers);
         }
         Played {
             bench,
