@@ -37,7 +37,7 @@ impl Letter {
     }
 }
 
-// Made of a letter, a round and a value.
+// Made of a letter, a round and a value; on one line, where the struct's own form takes five.
 fn plain(letter: Letter, round: Round, value: u16) -> Shown
     ensures { result ≡ plain letter round.0 value }
 {

@@ -45,7 +45,8 @@ impl<'a> Case<'a> {
         }
     }
 
-    // Takes in a statement of a round that a board sent.
+    // Takes in a statement of a round that a board sent. Its numbers stay apart, here and below: each case reads as what it
+    // tells, and a struct for each statement would be no plainer.
     fn deliver(&mut self, speaker: u8, round: u8, phase: Phase, value: u16) {
         let id = Round(round).identifier(phase);
         self.delivered.deliver(speaker, id, value);

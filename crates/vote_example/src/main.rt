@@ -236,6 +236,7 @@ impl Seat {
         }
     }
 
+    // Delivers a statement of a round; its numbers stay apart, as the steps have them, so a struct would be no plainer.
     fn hear(&mut self, speaker: u8, phase: Phase, round: u8, value: u16) {
         let id = Round(round).identifier(phase);
         self.board.deliver(Statement { speaker, id, value });
