@@ -96,14 +96,14 @@ decimal-more m h =
     if-false (ltb m 10) _ _ (le-ltb m 10 h)
     ∙ ap (λ (l : List ℕ). l ++ digit (m % 10) ∷ []) (fuel m (suc (m / 10)) (m / 10) (omega arith) (omega arith))
 
--- so it is what std has for a number
-pub decimal-std : (m : ℕ) → m < 2 ^ 64 → fmt.decimal m ≡ decimal m
+-- so it is what std has for a number, as far as numbers are printed here
+pub decimal-std : (m : ℕ) → m < 10 ^ 5 → fmt.decimal m ≡ decimal m
 decimal-std m h =
-    sym (decimal_from_appends (λ k n. decimal n) (record { one = λ k n. decimal-one n; more = λ k n. decimal-more n }) (m + 1) m h (length-decimal-le_succ m h))
+    sym (decimal_from_appends (λ k n. decimal n) (record { one = λ k n. decimal-one n; more = λ k n. decimal-more n }) (m + 1) m (omega (arith, h)) (length-decimal-le_succ m (omega (arith, h))))
 
 -- a number below a power of ten has at most as many digits as the power has zeros
-pub digits-within : (d m : ℕ) → m < 10 ^ suc d → m < 2 ^ 64 → length (decimal m) ≤ suc d
-digits-within d m h f = omega (arith, ap length (decimal-std m f), length-decimal-le (suc d) m (omega arith) h f)
+pub digits-within : (d m : ℕ) → m < 10 ^ suc d → m < 10 ^ 5 → length (decimal m) ≤ suc d
+digits-within d m h f = omega (arith, ap length (decimal-std m f), length-decimal-le (suc d) m (omega arith) h (omega (arith, f)))
 
 -- how long an event's line is, and a board's
 pub event-length : (k a : ℕ) → length (event_line k a) ≡ length (decimal k) + length (decimal a) + 2
