@@ -10,8 +10,8 @@ use crate::text::Text;
 use bench::Bench;
 
 // What a file came to that was read and played: its boards, its events, the answer to each, and the bench after the last.
-// The answers are the first `count`: their memory is fixed, as there is no heap. `n` is the file's: the bench hands on no law
-// that its own stays as events are played.
+// The answers are the first `count`: their memory is fixed, as there is no heap. `n` is the file's: that the bench still has
+// it after the events follows only from the laws of its whole history.
 #[derive(Drop)]
 pub struct Report {
     n: u8,
