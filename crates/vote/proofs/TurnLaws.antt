@@ -1,5 +1,5 @@
 -- Laws of a turn. Assumes nothing.
-use Prim.Native.Nat.{ℕ, suc, ◌≤◌, ◌<◌}
+use Prim.Native.Nat.{ℕ, ◌+◌, suc, ◌≤◌, ◌<◌}
 use mathlib.Core.Path.{◌≡◌, refl, sym, ap, subst⁻¹, ◌∙◌}
 use mathlib.Core.Bool.{true, true≢false}
 use mathlib.Core.Logic.{◌⊎◌, inl}
@@ -92,7 +92,7 @@ pub not_started-is : turn_number NotStarted ≡ 15
 unfolding turn_number
 not_started-is = refl
 
-pub ended-is : turn_number Ended ≡ 16
+pub ended-is : turn_number Ended ≡ turn_number NotStarted + 1
 unfolding turn_number
 ended-is = refl
 
