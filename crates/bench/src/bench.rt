@@ -12,7 +12,8 @@ use signer::{Identifier, Signer, from_one};
 use vote::Board;
 
 // The boards of a bus, 1 to n, the sound ones among them, their signers, and the copies that are owed. The arrays are for as
-// many boards as there can be, with n beside them: a bench has fixed memory (a rule of the project).
+// many boards as there can be, with n beside them, and boards and signers stand apart: a bench has fixed memory and open
+// fields (rules of the project).
 #[derive(Clone, Copy)]
 pub struct Bench {
     pub n: u8,
@@ -85,7 +86,8 @@ impl Bench {
         self.owed.receivers(speaker, id)
     }
 
-    // The boards that have delivered a speaker's statement under an identifier.
+    // The boards that have delivered a speaker's statement under an identifier. A loop of its own, beside `sound_of`, which
+    // tests the marks too and stops at the first that is none: one loop for both would be no plainer.
     #[tactic(auto, using(crate::proofs::Rules::rules_bench_bench_holders), unfolding(crate::specs::Benches::holders))]
     pub(crate) fn holders(&self, speaker: u8, id: Identifier) -> BoardSet
         ensures { result ≡ holders limits self.now speaker id.0 }

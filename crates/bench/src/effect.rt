@@ -47,7 +47,8 @@ impl Known {
 }
 
 impl Bench {
-    // Changes board k; nothing changes where the number is no board's.
+    // Changes board k; nothing changes where the number is no board's. By index, here and for a signer, for the
+    // reason that stands at `from_one::set_nth`.
     #[tactic(auto, using(crate::proofs::Rules::rules_places), unfolding(crate::specs::Benches::board_at, crate::specs::Effects::with_board_at))]
     fn change<F: FnOnce(&mut Board)>(&mut self, k: u8, change: F)
         requires { F.IsAlwaysCallable change }

@@ -30,7 +30,8 @@ pub struct Event {
     pub value: u16,
 }
 
-// An event of a kind that there is. In contracts it is that event.
+// An event of a kind that there is. In contracts it is that event. It has the event's fields, since an `Event` in it would
+// be taken apart at each row, so no plainer.
 #[derive(Drop)]
 pub(crate) struct Known {
     pub(crate) kind: Kind,
@@ -49,6 +50,7 @@ impl Model for Known {
     ghost view = { λ e. record { kind = kind_number e.kind; a = e.a; b = e.b; id = e.id; value = e.value } };
 }
 
+// By hand, since no derive makes an enum of a number.
 impl TryFrom<u8> for Kind {
     type Error = Refusal;
 

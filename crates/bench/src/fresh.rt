@@ -60,7 +60,8 @@ impl Bench {
         }
     }
 
-    // The fresh bench of one sound board, with the answer why it is no other.
+    // The fresh bench of one sound board, with the answer why it is no other: a refused call gives a bench (a rule of the
+    // project).
     fn refused(fault: SetupFault) -> Fresh
         ensures { result ≡ record { bench = bench_of limits alone.n alone.sound; answer = Err fault } }
     {

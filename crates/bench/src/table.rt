@@ -101,7 +101,8 @@ impl Bench {
         }
     }
 
-    // Row 15: a proposal to a board that has started, a turn of or an announcement to one that has not.
+    // Row 15: a proposal to a board that has started, a turn of or an announcement to one that has not. Here and in row 16
+    // there is an arm for each kind, so `matches!` would be no plainer.
     #[tactic(auto, using(crate::proofs::Rules::rules_tests), unfolding(crate::specs::Table::start_row, crate::specs::Events::kind_number))]
     fn start_row(&self, e: &Known) -> bool
         ensures { result ≡ start_row limits self.now e.now }
@@ -125,7 +126,8 @@ impl Bench {
         }
     }
 
-    // Row 17: b has not signed what is to be delivered.
+    // Row 17: b has not signed what is to be delivered. Rows 17 to 21 are about one kind each, which is a premise beside the
+    // others, so a `match` would be no plainer.
     #[tactic(auto, using(crate::proofs::Rules::rules_tests), unfolding(crate::specs::Table::signed_row, crate::specs::Events::kind_number))]
     fn signed_row(&self, e: &Known) -> bool
         ensures { result ≡ signed_row limits self.now e.now }

@@ -48,7 +48,8 @@ enum Step {
     NoKind(u8),
 }
 
-// The schedules. The opening of round 1 has identifier 1, its ballots have 2; round 2 has 3 and 4.
+// The schedules. The opening of round 1 has identifier 1, its ballots have 2; round 2 has 3 and 4. Each line is another
+// event, so a function that made some of them would be no plainer.
 
 // A board alone.
 const ALONE: &[Step] = &[
@@ -183,7 +184,7 @@ const ECHO: &[Step] = &[
 const STEPS: usize = INCIDENT.len();
 
 impl Step {
-    // Its event; a field that it does not have is 0.
+    // Its event; a field that it does not have is 0. The kind is a byte there, since the field is open (a rule of the project).
     fn event(self) -> Event {
         let (kind, a, b, id, value) = match self {
             Step::Propose(k, value) => (Kind::Propose as u8, k, 0, 0, value),
@@ -268,7 +269,7 @@ struct Case<'a> {
 }
 
 impl<'a> Case<'a> {
-    // A whole schedule, with room enough.
+    // A whole schedule, with room enough; n and the marks stay two arguments, as for the call that makes the bench.
     fn whole(title: &'a str, n: u8, marks: Marks, steps: &'a [Step]) -> Case<'a> {
         Case {
             title,
@@ -405,7 +406,8 @@ fn not_played(rt: &HostRuntime) -> io::Result<()> {
     )
 }
 
-// What an event is answered on a fresh bench, after another one and after itself so many times.
+// What an event is answered on a fresh bench, after another one and after itself so many times; n and the marks stay apart,
+// as for the call that makes the bench.
 #[tactic(auto, using(crate::proofs::Rules::rules_answer_after))]
 fn answer_after(n: u8, marks: Marks, first: Event, again: Event, times: u8) -> Result<(), Refusal>
     ensures { result ≡ (step_of limits (after limits (fresh_bench limits n marks) (first ∷ replicate times again)) again).answer }

@@ -8,7 +8,8 @@ ghost use Rattle.delivery.specs.declared.allowance.Allowance.TheVariants.{Nothin
 use crate::bus;
 use signer::Log;
 
-// What is allowed in a round: no value, every value, or only the value of this entry. The blank never is.
+// What is allowed in a round: no value, every value, or only the value of this entry (a number, as in `Log`). The blank
+// never is.
 #[derive(Clone, Copy, Debug, PartialEq, Eq)]
 pub(crate) enum Allowance {
     Nothing,

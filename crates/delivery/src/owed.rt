@@ -66,7 +66,7 @@ impl Owed {
         from_one::nth(&self.speakers, speaker, Copies::none())
     }
 
-    // The boards to which a copy of a speaker's statement is owed.
+    // The boards to which a copy of a speaker's statement is owed; speaker and identifier stay apart, as in `Delivered`.
     #[tactic(auto, using(crate::proofs::Rules::rules_owed_owed_receivers), unfolding(crate::specs::Owed::receivers, crate::specs::Owed::copies_of))]
     pub fn receivers(&self, speaker: u8, id: Identifier) -> BoardSet
         ensures { result ≡ receivers limits self.now speaker id.0 }

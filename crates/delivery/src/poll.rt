@@ -42,6 +42,8 @@ impl Delivered {
     }
 }
 
+// Entries stay numbers here, as in `Log`. Each contract names the parts of a `Heard` that its definition takes, which are
+// not the same in two of three, so one word for them would be no plainer.
 impl<'a> Poll<'a> {
     // The boards of 1 to n whose ballot of the round has this entry; no ballot has entry 0. The bench collects sets by
     // such loops too: one public call for all would take the test as a closure, and so ask something of its callers,
@@ -86,6 +88,7 @@ impl<'a> Poll<'a> {
     fn allowance(&self) -> Allowance
         ensures { lets result ≡ allowed limits self.now.n (heard limits self.now.delivered) self.now.round }
     {
+        // compared as a number, since `Round(0)` is no plainer
         if self.round.0 == 0 {
             return Allowance::Nothing;
         }

@@ -87,7 +87,7 @@ impl Words<'_> {
         ]);
     }
 
-    // Every board.
+    // Every board. It is handed out by value, since `Bench::board` gives one of any number (a rule of the project).
     fn boards(&mut self, bench: &Bench)
         requires { self.old.length + limits.boards * board_size ≤ length self.old.out.now }
         ensures { Puts (boards_words limits bench.now) self.old.out self.old.length self.new.out self.new.length }
@@ -118,8 +118,7 @@ impl Words<'_> {
         ensures { Puts (delivered_words limits bench.now) self.old.out self.old.length self.new.out self.new.length }
     {
         for k in 0..Bench::BOARDS {
-            let board = bench.board(k + 1);
-            self.table(|speaker, id| board.delivered.entry(speaker, id));
+            self.table(|speaker, id| bench.delivered(k + 1, speaker, id));
         }
     }
 

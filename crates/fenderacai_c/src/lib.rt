@@ -1,5 +1,6 @@
 // The C library: the calls of crate `fenderacai` under names that a linker finds. Each hands on what it is given, and promises
-// what the call there promises.
+// what the call there promises. They stand twice, since a crate is a library or a static library, and not both (the C
+// interface).
 #![tactic(auto)]
 
 ghost use Rattle.std.specs.Prelude.{◌≡◌, length};

@@ -6,7 +6,8 @@ ghost use Rattle.bench.specs.Runs.{played_of, answers_after};
 use bench::{Bench, Event, Played};
 
 // Plays so many events into a fresh bench, from the part of a file that begins with the first of them, and writes each
-// answer to its place in `answers`. A part that has fewer is played as `Bench::play` plays all its bytes.
+// answer to its place in `answers`. A part that has fewer is played as `Bench::play` plays all its bytes. n and the marks stay
+// two arguments, as there (a rule of the project).
 pub fn play(
     n: u8,
     marks: [u8; Bench::BOARDS as usize],

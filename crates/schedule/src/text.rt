@@ -15,7 +15,8 @@ pub(crate) struct Text<'a> {
     pub(crate) length: usize,
 }
 
-// Each of these puts some bytes after those that are there.
+// Each of these puts some bytes after those that are there. `Puts` speaks of the buffer and the length, and not of a `Text`,
+// since words in another crate are put in the same way: a record for each would be no plainer.
 impl Text<'_> {
     // One byte.
     pub(crate) fn put(&mut self, byte: u8)

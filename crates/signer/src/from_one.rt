@@ -26,7 +26,8 @@ pub fn nth<T: Copy>(list: &[T], k: u8, none: T) -> T
     get(list, k).copied().unwrap_or(none)
 }
 
-// Puts this in as element k; a list without an element k stays as it is.
+// Puts this in as element k; a list without an element k stays as it is. By index: tried by `get_mut`, after which the check
+// knows nothing of the other elements, so the proof did not close.
 #[tactic(auto, unfolding(crate::specs::FromOne::set_nth))]
 pub fn set_nth<T: Copy>(list: &mut [T], k: u8, element: T)
     ensures { list.new ≡ set_nth list.old k element }

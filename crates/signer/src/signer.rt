@@ -45,7 +45,7 @@ impl Signer {
         true
     }
 
-    // What was signed under an identifier, as a log's entry.
+    // What was signed under an identifier, as a log's entry (a number, as there).
     pub fn entry(&self, id: Identifier) -> u32
         ensures { result ≡ entry_at self.now.log id.0 }
     {

@@ -91,7 +91,8 @@ impl Board {
         }
     }
 
-    // Delivers a statement to the board, whatever its status.
+    // Delivers a statement to the board, whatever its status. Its parts are handed on, since what is delivered knows no
+    // `Statement`: that is a word of this crate, so one argument there would be no plainer.
     #[tactic(auto, unfolding(crate::specs::Boards::hears, crate::specs::Boards::deliver_to))]
     pub fn deliver(&mut self, statement: Statement)
         ensures { self.new ≡ deliver_to limits self.old statement }

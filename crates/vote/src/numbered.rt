@@ -1,7 +1,8 @@
 ghost use Rattle.std.specs.Prelude.{ℕ, ◌≡◌};
 ghost use Rattle.vote.specs.Turns.{numbered};
 
-// A refusal, which has a number in document 01's table.
+// A refusal, which has a number in document 01's table. No `From`, by which a number would be any conversion's: `number_of`
+// speaks of `number_in_table` for every refusal, so that would be no plainer.
 pub trait Numbered {
     // What the number is, as contracts say it.
     ghost number_in_table: { Self → ℕ };

@@ -97,7 +97,8 @@ impl<'a> Outlook<'a> {
         Move::Ballots(self.opened_value().unwrap_or(Log::BLANK))
     }
 
-    // Whether the board may count: a quorum has ballots, and every board without one is suspected.
+    // Whether the board may count: a quorum has ballots, and every board without one is suspected. By sets: tried as a
+    // chain over the boards, `(1..=n).all(..)`, whose proof did not close.
     #[tactic(auto, using(crate::proofs::Rules::rules_rule_outlook_may_count))]
     fn may_count(&self) -> bool
         ensures { result ≡ by_position may_count self.now }

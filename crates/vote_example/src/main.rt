@@ -20,6 +20,7 @@ enum Step {
     BlankRounds,
 }
 
+// The lists of steps. Each line is another one, so a function that made some of them would be no plainer.
 const OWN_TURN: &[Step] = &[
     Step::Turn,
     Step::Propose(700),
@@ -147,7 +148,8 @@ impl fmt::Display for Step {
     }
 }
 
-// The letter of a stage in document 01.
+// The letter of a stage in document 01. By `match`: a stage's own number is what a row of words has, so a cast would be no
+// plainer.
 fn letter(stage: Stage) -> char {
     match stage {
         Stage::Open => 'A',
@@ -195,6 +197,7 @@ impl fmt::Display for Seat {
 }
 
 impl Seat {
+    // n and the board's own number stay apart, as in the vote.
     fn fresh(n: u8, me: u8) -> Seat {
         Seat {
             n,

@@ -12,7 +12,7 @@ use Rattle.bench.specs.Events.{event_bytes, event_from}
 use Rattle.bench.specs.Runs.{events_in}
 use Rattle.bench.specs.declared.bench.Bench.{Bench}
 use Rattle.bench.specs.declared.event.Event.{Event}
-use Rattle.bench.proofs.AnswerLaws.{answer-numbered}
+use Rattle.bench.proofs.AnswerLaws.{event_played}
 use Rattle.schedule.specs.Prints.{PutAt}
 use Rattle.schedule.proofs.PrintLaws.{put-length}
 use Rattle.fenderacai.specs.Rows.{row}
@@ -29,8 +29,9 @@ loop-k-preserved c =
     let at : ℕ = event_bytes * l.k in
     let e : Event = event_from (drop at bs) in
     let event : c.read.result ≡ e = c.read.ensures ∙ ap event_from (part_to_end bs at) in
-    let bench : c.apply-answer.new.self ≡ (step_of limits l.bench e).bench = c.apply-answer.ensures.1 ∙ ap (λ (x : Event). (step_of limits l.bench x).bench) event in
-    let answer : c.number_of.result ≡ answer_number (step_of limits l.bench e).answer = c.number_of.ensures ∙ answer-numbered _ ∙ ap answer_number (c.apply-answer.ensures.0 ∙ ap (λ (x : Event). (step_of limits l.bench x).answer) event) in
+    let came = event_played limits l.bench _ _ e _ _ event c.apply-answer.ensures.0 c.apply-answer.ensures.1 c.number_of.ensures in
+    let bench : c.apply-answer.new.self ≡ (step_of limits l.bench e).bench = came.0 in
+    let answer : c.number_of.result ≡ answer_number (step_of limits l.bench e).answer = came.1 in
     let put : PutAt (row limits (answer_number (step_of limits l.bench e).answer) (step_of limits l.bench e).bench) l.self.out.now l.self.length c.row.new.self.out.now c.row.new.self.length = rw (answer, bench) at c.row.ensures.text in
     let far : event_bytes * (l.k + 1) ≡ at + event_bytes = omega arith in
     record {
