@@ -117,8 +117,9 @@ impl Words<'_> {
         requires { self.old.length + limits.boards * table_size limits ≤ length self.old.out.now }
         ensures { Puts (delivered_words limits bench.now) self.old.out self.old.length self.new.out self.new.length }
     {
-        for k in 0..Bench::BOARDS {
-            self.table(|speaker, id| bench.delivered(k + 1, speaker, id));
+        for i in 0..Bench::BOARDS {
+            let k = i + 1;
+            self.table(|speaker, id| bench.delivered(k, speaker, id));
         }
     }
 
