@@ -17,7 +17,7 @@ pub struct Bus {
 
 impl Bus {
     // Reads n marks, each as it comes. By index: the first fault that is met is the answer, so a missing mark is told in its
-    // turn, and what elements a loop by `iter_mut` has written is not known to the check.
+    // turn, and of what an adapter of `iter_mut` has written the check knows nothing.
     #[tactic(auto, using(crate::proofs::Rules::rules_bus_bus_read_marks), unfolding(crate::specs::Readings::bus_from))]
     fn read_marks(n: u8, bytes: &[u8]) -> Result<Bus, Fault>
         requires { n ≤ limits.boards }
