@@ -1,11 +1,11 @@
 -- Laws of the answers to an event: 0 is that of an accepted one alone, and what then comes of the bench. Assumes nothing.
-use Prim.Native.Nat.{ℕ, ◌≤◌}
+use Prim.Native.Nat.{ℕ}
 use native.Mathlib.Omega.{arith}
 use borrow.Author.Tests.{eqb-true, eqb-false, ne_eqb}
 use mathlib.Core.Path.{◌≡◌, refl, ap, ◌∙◌}
 use mathlib.Core.Bool.{true, false}
 use Rattle.std.specs.Prelude.{Result, Ok, Err}
-use mathlib.Core.Logic.{◌⊎◌, inl, inr, ⊎_elim}
+use mathlib.Core.Logic.{⊎_elim}
 use Rattle.signer.proofs.ConditionalLaws.{if-true, if-false}
 use Rattle.delivery.specs.Limits.{Limits}
 use Rattle.delivery.proofs.TestLaws.{decided}
@@ -13,12 +13,10 @@ use Rattle.vote.specs.Turns.{turn_number, numbered}
 use Rattle.vote.proofs.TurnLaws.{refusal-within as turn-within}
 use Rattle.vote.specs.declared.turn.Refusal.{Refusal as TurnRefusal}
 use Rattle.vote.specs.declared.turn.Refusal.TheVariants.{NotStarted, Ended, Waiting}
-use Rattle.bench.specs.Answers.{setup_number, fresh_number, refusal_number, answer_number, is_accepted}
+use Rattle.bench.specs.Answers.{setup_number, refusal_number, answer_number, is_accepted}
 use Rattle.bench.specs.Table.{check_of}
 use Rattle.bench.specs.Effects.{effect_of, step_of}
-use Rattle.bench.specs.Demands.{IsEventRow}
 use Rattle.bench.specs.declared.bench.Bench.{Bench}
-use Rattle.bench.specs.declared.answer.SetupFault.{SetupFault}
 use Rattle.bench.specs.declared.answer.SetupFault.TheVariants.{NoBus, NoMark}
 use Rattle.bench.specs.declared.event.Event.{Event}
 use Rattle.bench.specs.declared.answer.Refusal.{Refusal}
@@ -108,23 +106,6 @@ module _ (L : Limits) (c : Bench) (e : Event) where
   unfolding step_of
   step-answer = refl
 
--- every answer's number is 0 or that of a row
-refusal-within : (r : Refusal) → (refusal_number r ≡ 0) ⊎ IsEventRow (refusal_number r)
-unfolding refusal_number
-refusal-within NoKind = inr (omega arith, omega arith)
-refusal-within NoBoard = inr (omega arith, omega arith)
-refusal-within WrongField = inr (omega arith, omega arith)
-refusal-within WrongMark = inr (omega arith, omega arith)
-refusal-within SameBoard = inr (omega arith, omega arith)
-refusal-within WrongStart = inr (turn-within NotStarted)
-refusal-within AtEnd = inr (turn-within Ended)
-refusal-within NotSigned = inr (omega arith, omega arith)
-refusal-within NotAbove = inr (omega arith, omega arith)
-refusal-within AlreadyDelivered = inr (omega arith, omega arith)
-refusal-within NotDecided = inr (omega arith, omega arith)
-refusal-within FewBallots = inr (omega arith, omega arith)
-refusal-within MustWait = inr (turn-within Waiting)
-
 -- an event's answer has its number as any answer has
 pub answer-numbered : (a : Result (Unit {0}) Refusal) → numbered refusal_number a ≡ answer_number a
 unfolding answer_number
@@ -139,11 +120,6 @@ module _ (L : Limits) (c c' : Bench) (e e' : Event) (a : Result (Unit {0}) Refus
     number ∙ answer-numbered a ∙ ap answer_number (answered ∙ ap (λ (x : Event). (step_of L c x).answer) read),
   )
 
-pub answer-within : (a : Result (Unit {0}) Refusal) → (answer_number a ≡ 0) ⊎ IsEventRow (answer_number a)
-unfolding answer_number
-answer-within (Ok _) = inl refl
-answer-within (Err r) = refusal-within r
-
 pub no_bus-is : setup_number NoBus ≡ 2
 unfolding setup_number
 no_bus-is = refl
@@ -151,12 +127,6 @@ no_bus-is = refl
 pub no_mark-is : setup_number NoMark ≡ 3
 unfolding setup_number
 no_mark-is = refl
-
-pub fresh-within : (a : Result (Unit {0}) SetupFault) → (fresh_number a ≡ 0) ⊎ ((2 ≤ fresh_number a) × (fresh_number a ≤ 3))
-unfolding fresh_number setup_number
-fresh-within (Ok _) = inl refl
-fresh-within (Err NoBus) = inr (omega arith, omega arith)
-fresh-within (Err NoMark) = inr (omega arith, omega arith)
 
 -- where an event's is not 0, the bench is as it was
 pub refused-same : (L : Limits) (c : Bench) (e : Event) → (answer_number (step_of L c e).answer ≡ 0 → ⊥) → (step_of L c e).bench ≡ c

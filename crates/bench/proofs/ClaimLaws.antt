@@ -7,7 +7,7 @@ use mathlib.Core.Bool.{true, false}
 use mathlib.Core.List.{List, [], ◌∷◌, ◌++◌, append-nil, append_assoc}
 use mathlib.Core.Logic.{◌⊎◌, inl, inr}
 use Rattle.signer.specs.Log.{is_identifier, entry_of}
-use Rattle.signer.proofs.LogLaws.{entry-some}
+use Rattle.signer.proofs.LogLaws.{entry-some, entry-one}
 use Rattle.signer.proofs.FromOneLaws.{within_low}
 use Rattle.signer.specs.Signer.{grants}
 use Rattle.signer.proofs.SignerLaws.{grants-above}
@@ -23,17 +23,19 @@ use Rattle.vote.specs.Turns.{turn}
 use Rattle.vote.specs.declared.statement.Statement.{Statement}
 use Rattle.std.specs.Prelude.{Some}
 use Rattle.vote.specs.Boards.{decision_of}
+use Rattle.vote.specs.declared.board.Decision.{Decision}
+use Rattle.vote.proofs.StatusLaws.{decided-one}
 use Rattle.vote.proofs.ProperLaws.{voting-round}
 use Rattle.vote.proofs.SigningLaws.{Signs, signs-opening, signs-ballot, due, signs-due, turn-signs}
 use Rattle.bench.specs.Benches.{is_sound, board_at, signer_at, heard_by, signed_by}
-use Rattle.bench.specs.Setups.{Setup, setup}
+use Rattle.bench.specs.Setups.{Setup, setup, bench_of, fresh_bench, fresh_of}
 use Rattle.bench.specs.Answers.{answer_number, is_accepted}
 use Rattle.bench.specs.Table.{check_of}
 use Rattle.bench.specs.Effects.{effect_of, step_of}
-use Rattle.bench.specs.Runs.{after, answers_to}
+use Rattle.bench.specs.Runs.{steps, last_of, after, answers_to}
 use Rattle.bench.specs.Shows.{decided_as, shown}
-use Rattle.bench.specs.Story.{Entry, History, history_of}
-use Rattle.bench.specs.Claim.{Delivered, Decided, Origin, NothingOwed, AllAlike, Shows, Agreement}
+use Rattle.bench.specs.Story.{Entry, History, history_of, Standing, standing_after}
+use Rattle.bench.specs.Claim.{Signed, Delivered, Decided, Origin, NothingOwed, AllAlike, Shows, Agreement}
 use Rattle.bench.specs.declared.bench.Bench.{Bench}
 use Rattle.bench.specs.declared.event.Event.{Event}
 use Rattle.bench.proofs.AnswerLaws.{step-accepted, step-refused}
@@ -90,7 +92,7 @@ module _ (L : Limits) (S : Setup) (g : Ground L S) where
 
   pub sure-after : (es : List Event) (H : History) (c : Bench) → Sure L S H c
       → Sure L S (H ++ history_of es (answers_to L c es)) (after L c es)
-  unfolding history_of answers_to after
+  unfolding history_of answers_to after steps last_of
   sure-after [] H c y = subst⁻¹ (λ (K : History). Sure L S K c) (append-nil H) y
   sure-after (e ∷ es) H c y =
       subst
@@ -251,13 +253,42 @@ module _ (L : Limits) (S : Setup) (g : Ground L S) where
             j
             (identifier-within L Ballot _ g.identifiers-enough (voting-round L (board_at L c k) (y.fit.proper k) v))
 
+    -- a board has decided in one round, and signed one value under an identifier; what was delivered was signed
+    sure-round : (k r r' v w : ℕ) → Decided L S H k r v → Decided L S H k r' w → r ≡ r'
+    sure-round k r r' v w p q =
+        ap
+        (λ (d : Decision). d.round.0)
+        (decided-one (decision_of r v) (decision_of r' w) (sym ((y.tells.decided k r v).0 p).1 ∙ ((y.tells.decided k r' w).0 q).1))
+
+    sure-once : (k i v w : ℕ) → Signed L S H k i v → Signed L S H k i w → v ≡ w
+    sure-once k i v w p q = entry-one v w (sym ((y.tells.signed k i v).0 p) ∙ (y.tells.signed k i w).0 q)
+
+    sure-integrity : (k s i v : ℕ) → Delivered L S H k s i v → Signed L S H s i v
+    sure-integrity k s i v d = (y.tells.signed s i v).1 (y.fit.heard-was-signed k s i v ((y.tells.delivered k s i v).0 d))
+
+    -- a board stands where the story has it
+    sure-stands : (k : ℕ)
+        → ((board_at L c k).position ≡ (standing_after L S.n k H).position)
+        × ((s i : ℕ) → heard_by L c k s i ≡ (standing_after L S.n k H).heard s i)
+    sure-stands k = (
+      ap (λ (t : Standing). t.position) (sym (y.tells.stands k)),
+      λ s i. ap (λ (t : Standing). t.heard s i) (sym (y.tells.stands k)),
+    )
+
 -- demand 3, of any bench and history of which this is sure
 pub sure-agrees : (L : Limits) (n : ℕ) (marks : List ℕ) → Ground L (setup L n marks) → (H : History) (c : Bench)
     → Sure L (setup L n marks) H c → Agreement L n marks H c
+unfolding fresh_of fresh_bench bench_of
 sure-agrees L n marks g H c y =
     record {
       agreement = sure-agreement L (setup L n marks) g H c y;
+      one_round = sure-round L (setup L n marks) g H c y;
       validity = sure-validity L (setup L n marks) g H c y;
+      one_value = sure-once L (setup L n marks) g H c y;
+      integrity = sure-integrity L (setup L n marks) g H c y;
       owed = (all_alike L (setup L n marks) g H c y, nothing-owed L (setup L n marks) g H c y);
       shows = sure-shows L (setup L n marks) g H c y;
+      fixed = (y.fit.same-n, y.fit.same-sound);
+      stands = λ k _. sure-stands L (setup L n marks) g H c y k;
+      signs = λ k s. sure-signs L (setup L n marks) g H c y k (sound-on-bench L (setup L n marks) c y.fit k s);
     }

@@ -27,4 +27,6 @@ pub mod Demands
 pub mod ThinCall
 pub mod LentCall
 pub mod LentBench
+pub mod AppliesLaws
+pub mod MakingLaws
 pub mod Rules

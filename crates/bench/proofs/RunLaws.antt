@@ -18,7 +18,7 @@ use Rattle.bench.specs.Events.{high_first, event_bytes, event_from}
 use Rattle.bench.specs.Setups.{fresh_bench}
 use Rattle.bench.specs.Answers.{answer_number}
 use Rattle.bench.specs.Effects.{step_of}
-use Rattle.bench.specs.Runs.{after, answers_to, events_in, ending_of, played_by, events_played, written, played_of, answers_after}
+use Rattle.bench.specs.Runs.{steps, last_of, after, answers_to, events_in, ending_of, played_by, events_played, written, played_of, answers_after}
 use Rattle.bench.specs.Story.{History, history_of}
 use Rattle.bench.specs.declared.bench.Bench.{Bench}
 use Rattle.bench.specs.declared.event.Event.{Event}
@@ -45,11 +45,11 @@ event-append bs more h =
 
 -- the bench after no event, and after one and then others
 pub after-nil : (L : Limits) (c : Bench) → after L c [] ≡ c
-unfolding after
+unfolding after steps last_of
 after-nil L c = refl
 
 pub after-cons : (L : Limits) (c : Bench) (e : Event) (es : List Event) → after L c (e ∷ es) ≡ after L (step_of L c e).bench es
-unfolding after
+unfolding after steps last_of
 after-cons L c e es = refl
 
 -- no events, and one more
@@ -69,7 +69,7 @@ length-events (suc k) bs = ap suc (length-events k (drop event_bytes bs))
 
 -- and each is answered
 pub length-answers : (L : Limits) (c : Bench) (es : List Event) → length (answers_to L c es) ≡ length es
-unfolding answers_to
+unfolding answers_to steps
 length-answers L c [] = refl
 length-answers L c (e ∷ es) = ap suc (length-answers L (step_of L c e).bench es)
 
@@ -86,7 +86,7 @@ module _ (L : Limits) (c : Bench) (n k at : ℕ) (bs : List ℕ) (h : k < n) whe
   -- so the bench after those that are left is that after this one and the rest
   pub after_next : after L c (events_in (n - k) (drop at bs))
       ≡ after L (step_of L c (event_from (drop at bs))).bench (events_in (n - (k + 1)) (drop (at + event_bytes) bs))
-  unfolding after
+  unfolding after steps last_of
   after_next = ap (λ (es : List Event). after L c es) (events-next n k at bs h)
 
   -- and their answers are written by writing this one's, and then the rest
@@ -95,7 +95,7 @@ module _ (L : Limits) (c : Bench) (n k at : ℕ) (bs : List ℕ) (h : k < n) whe
       (set buf k (answer_number (step_of L c (event_from (drop at bs))).answer))
       (k + 1)
       (answers_to L (step_of L c (event_from (drop at bs))).bench (events_in (n - (k + 1)) (drop (at + event_bytes) bs)))
-  unfolding answers_to
+  unfolding answers_to steps
   answers_next buf =
       ap (λ (es : List Event). sets buf k (answers_to L c es)) (events-next n k at bs h)
       ∙ ap
@@ -104,11 +104,11 @@ module _ (L : Limits) (c : Bench) (n k at : ℕ) (bs : List ℕ) (h : k < n) whe
 
 -- once none is left, the bench and the buffer are as they stand
 pub after_none : (L : Limits) (c : Bench) (k : ℕ) (bs : List ℕ) → k ≡ 0 → after L c (events_in k bs) ≡ c
-unfolding after events_in
+unfolding after events_in steps last_of
 after_none L c k bs e = rw e
 
 pub answers-none : (L : Limits) (c : Bench) (k i : ℕ) (bs buf : List ℕ) → k ≡ 0 → sets buf i (answers_to L c (events_in k bs)) ≡ buf
-unfolding answers_to events_in
+unfolding answers_to events_in steps
 answers-none L c k i bs buf e = rw e
 
 -- writing one after another from the start is writing all in place of the first
@@ -180,7 +180,7 @@ nth-written xs ys k l h =
 -- a history looks at no more of the buffer than the answers
 history-append : (L : Limits) (c : Bench) (es : List Event) (ys : List ℕ)
     → history_of es (answers_to L c es ++ ys) ≡ history_of es (answers_to L c es)
-unfolding history_of answers_to
+unfolding history_of answers_to steps
 history-append L c [] ys = refl
 history-append L c (e ∷ es) ys =
     ap

@@ -42,7 +42,7 @@ use Rattle.bench.proofs.BenchLaws.{board-fresh, signer-fresh}
 use Rattle.bench.proofs.FitLaws.{Ground, Fit}
 
 -- the members of a set of 1 to n are among them, and the set of board 1 alone is such a set
-in_within : (n : ℕ) (p : ℕ → Bool) (k : ℕ) → in_set (set_of n p) k ≡ true → is_within n k ≡ true
+pub in_within : (n : ℕ) (p : ℕ → Bool) (k : ℕ) → in_set (set_of n p) k ≡ true → is_within n k ≡ true
 in_within n p k t =
     ⊎_elim
     (λ w. w)

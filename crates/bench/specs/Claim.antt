@@ -9,8 +9,11 @@ use Rattle.delivery.specs.Owed.{receivers}
 use Rattle.delivery.specs.declared.round.Phase.TheVariants.{Opening}
 use Rattle.vote.specs.declared.rule.Move.TheVariants.{Decides}
 use Rattle.bench.specs.Events.{proposing, turning, delivering, announcing, signing}
-use Rattle.bench.specs.Benches.{heard_by, signed_by}
-use Rattle.bench.specs.Setups.{Setup, setup}
+use Rattle.signer.specs.Signer.{grants}
+use Rattle.vote.specs.Turns.{turn}
+use Rattle.vote.specs.declared.statement.Statement.{Statement}
+use Rattle.bench.specs.Benches.{board_at, signer_at, heard_by, signed_by}
+use Rattle.bench.specs.Setups.{Setup, setup, fresh_of}
 use Rattle.bench.specs.Shows.{decided_as, shown}
 use Rattle.bench.specs.Story.{History, Standing, move_of, saying, standing_after}
 use Rattle.bench.specs.declared.bench.Bench.{Bench}
@@ -138,11 +141,24 @@ module _ (L : Limits) (S : Setup) where
     pub owed : (k s i v : ℕ) → Owed H k s i v ↔ ((in_set (receivers L c.owed s i) k ≡ true) × (signed_by L c s i ≡ entry_of v))
     pub no_more : (k s i : ℕ) → in_set (receivers L c.owed s i) k ≡ true → (v : ℕ) × Owed H k s i v
 
--- Demand 3, of a history H that starts from n and the marks, whatever these are, and of the bench c after it. Any two
--- sound boards that decided, or one that did so twice, decided the same value; a decided value has an origin; no copy is
--- owed exactly when all sound boards have delivered the same; and the bench shows all this.
+-- The claim, of a history H that starts from n and the marks, whatever these are, and of the bench c after it.
 pub record Agreement (L : Limits) (n : ℕ) (marks : List ℕ) (H : History) (c : Bench) : Type 0 where
+  -- any two sound boards that decided, or one that did so twice, decided the same value; and one board in one round
   pub agreement : (j k r r' v w : ℕ) → Decided L (setup L n marks) H j r v → Decided L (setup L n marks) H k r' w → v ≡ w
+  pub one_round : (k r r' v w : ℕ) → Decided L (setup L n marks) H k r v → Decided L (setup L n marks) H k r' w → r ≡ r'
+  -- a decided value has an origin
   pub validity : (k r v : ℕ) → Decided L (setup L n marks) H k r v → Origin L (setup L n marks) H v
+  -- under one identifier a board has signed one value at most; and what a sound board has delivered was signed
+  pub one_value : (k i v w : ℕ) → Signed L (setup L n marks) H k i v → Signed L (setup L n marks) H k i w → v ≡ w
+  pub integrity : (k s i v : ℕ) → Delivered L (setup L n marks) H k s i v → Signed L (setup L n marks) H s i v
+  -- no copy is owed exactly when all sound boards have delivered the same
   pub owed : NothingOwed L (setup L n marks) H ↔ AllAlike L (setup L n marks) H
+  -- the bench shows all this; its boards are those that the call for the fresh bench asked for, and are marked as there
   pub shows : Shows L (setup L n marks) H c
+  pub fixed : (c.n ≡ (fresh_of L n marks).bench.n) × (c.sound ≡ (fresh_of L n marks).bench.sound)
+  -- each sound board stands where the story has it, and has delivered what it has there
+  pub stands : (k : ℕ) → Sound L (setup L n marks) k → let t = standing_after L (setup L n marks).n k H in
+      ((board_at L c k).position ≡ t.position) × ((s i : ℕ) → heard_by L c k s i ≡ t.heard s i)
+  -- and what it says in its next turn its signer signs
+  pub signs : (k : ℕ) → Sound L (setup L n marks) k → (x : Statement) → (turn L c.n k (board_at L c k)).signed ≡ Some x
+      → grants L.identifiers (signer_at L c k) x.id.0 ≡ true

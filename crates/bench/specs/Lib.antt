@@ -15,3 +15,5 @@ pub mod Examples
 pub mod Story
 pub mod Claim
 pub mod Demands
+pub mod Applies
+pub mod Making

@@ -1,5 +1,5 @@
 -- Document 01, "Events" and "Schedule file and program": a list of events, one after another, and the bytes of a list.
-use Rattle.std.specs.Prelude.{ℕ, zero, suc, ◌/◌, ◌%◌, List, [], ◌∷◌, ◌++◌, Result, Ok, Err, eqb, leb, length, drop, if◌then◌else◌}
+use Rattle.std.specs.Prelude.{ℕ, zero, suc, ◌/◌, ◌%◌, List, [], ◌∷◌, ◌++◌, map, Result, Ok, Err, eqb, leb, length, drop, if◌then◌else◌}
 use Rattle.delivery.specs.Limits.{Limits}
 use Rattle.bench.specs.Events.{event_bytes, event_from}
 use Rattle.bench.specs.Setups.{fresh_answer, fresh_bench}
@@ -7,19 +7,27 @@ use Rattle.bench.specs.Answers.{answer_number}
 use Rattle.bench.specs.Effects.{step_of}
 use Rattle.bench.specs.declared.bench.Bench.{Bench}
 use Rattle.bench.specs.declared.event.Event.{Event}
+use Rattle.bench.specs.declared.effect.Outcome.{Outcome}
 use Rattle.bench.specs.declared.play.Played.{Played}
 use Rattle.bench.specs.declared.play.Unplayed.{Unplayed}
 use Rattle.bench.specs.declared.play.Unplayed.TheVariants.{Ragged, Short}
 
--- the bench after a list of events, and the numbers of their answers. Each event is played on the bench that the
--- last one left behind.
+-- A run: what comes of each event of a list. Each is played on the bench that the one before it left behind.
+unfoldable pub steps : Limits → Bench → List Event → List Outcome
+steps L c [] = []
+steps L c (e ∷ es) = step_of L c e ∷ steps L (step_of L c e).bench es
+
+-- the last of a list, or a where there is none
+unfoldable pub last_of : {A : Type 0} → A → List A → A
+last_of a [] = a
+last_of a (x ∷ xs) = last_of x xs
+
+-- the bench after a run that began on c, and the numbers of its answers
 unfoldable pub after : Limits → Bench → List Event → Bench
-after L c [] = c
-after L c (e ∷ es) = after L (step_of L c e).bench es
+after L c es = last_of c (map (λ (o : Outcome). o.bench) (steps L c es))
 
 unfoldable pub answers_to : Limits → Bench → List Event → List ℕ
-answers_to L c [] = []
-answers_to L c (e ∷ es) = answer_number (step_of L c e).answer ∷ answers_to L (step_of L c e).bench es
+answers_to L c es = map (λ (o : Outcome). answer_number o.answer) (steps L c es)
 
 -- the same from the fresh bench of n boards and their marks
 abbrev pub bench_after : Limits → ℕ → List ℕ → List Event → Bench

@@ -5,6 +5,7 @@
 
 mod answer;
 mod bench;
+mod claims;
 mod effect;
 mod event;
 mod fresh;
@@ -14,6 +15,7 @@ mod table;
 
 pub use answer::{Refusal, SetupFault};
 pub use bench::Bench;
+pub use claims::{every_event, every_fresh, every_list};
 pub use effect::Outcome;
 pub use event::{Event, Kind};
 pub use fresh::Fresh;

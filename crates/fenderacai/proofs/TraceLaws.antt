@@ -10,7 +10,7 @@ use Rattle.delivery.specs.Limits.{Limits, limits}
 use Rattle.bench.specs.Answers.{answer_number}
 use Rattle.bench.specs.Effects.{step_of}
 use Rattle.bench.specs.Events.{event_bytes, event_from}
-use Rattle.bench.specs.Runs.{events_in}
+use Rattle.bench.specs.Runs.{steps, events_in}
 use Rattle.bench.specs.Setups.{fresh_bench}
 use Rattle.bench.specs.declared.bench.Bench.{Bench}
 use Rattle.bench.specs.declared.event.Event.{Event}
@@ -28,7 +28,7 @@ use Rattle.fenderacai.proofs.RowLaws.{length-row}
 
 -- each event has a row
 pub length-rows : (c : Bench) (es : List Event) → length (rows_of limits c es) ≡ row_size limits * length es
-unfolding rows_of
+unfolding rows_of steps
 length-rows c [] = refl
 length-rows c (e ∷ es) =
     let x = step_of limits c e in
@@ -41,14 +41,14 @@ pub rows_next : {buf buf' : List ℕ} {next r : ℕ} (c : Bench) (n k at : ℕ) 
     PutAt (row limits (answer_number x.answer) x.bench) buf next buf' r
     → sets buf' r (rows_of limits x.bench (events_in (n - (k + 1)) (drop (at + event_bytes) bs)))
     ≡ sets buf next (rows_of limits c (events_in (n - k) (drop at bs)))
-unfolding rows_of
+unfolding rows_of steps
 rows_next {buf} {next = next} c n k at bs h p =
     (put_then p (record { place = refl; bytes = refl })).bytes
     ∙ ap (λ (es : List Event). sets buf next (rows_of limits c es)) (sym (events-next n k at bs h))
 
 -- once no event is left, the buffer is as it stands
 pub rows_none : (c : Bench) (k : ℕ) (bs buf : List ℕ) (next : ℕ) → k ≡ 0 → sets buf next (rows_of limits c (events_in k bs)) ≡ buf
-unfolding rows_of
+unfolding rows_of steps
 rows_none c k bs buf next e =
     ap (λ (es : List Event). sets buf next (rows_of limits c es)) (ap (λ (m : ℕ). events_in m bs) e ∙ events-none bs)
 

@@ -10,6 +10,7 @@ pub mod SectionLaws
 pub mod FileLaws
 pub mod PrintLaws
 pub mod PlayLaws
+pub mod StopLaws
 pub mod ExampleLaws
 pub mod Demands
 pub mod Rules

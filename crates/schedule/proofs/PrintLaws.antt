@@ -10,14 +10,15 @@ use borrow.Author.Tests.{leb-true, ltb-false, lt-ltb, le-ltb, le-leb, lt-leb}
 use mathlib.Core.Path.{◌≡◌, refl, sym, ap, subst, ◌∙◌}
 use mathlib.Core.List.{List, [], ◌∷◌, ◌++◌, append_assoc}
 use lib.Dec.{leb, ltb}
-use lib.ListN.{length, take, get_or, set, length-append}
+use lib.ListN.{length, take, drop, get_or, set, length-append}
 use Rattle.std.proofs.lemmas.List.{take_more}
 use Rattle.std.proofs.lemmas.Fmt.{decimal_from_appends, length-decimal-le, length-decimal-le_succ}
 use Rattle.std.specs.Fmt as fmt
-use lib.Seq.{sets, length-sets}
+use lib.Seq.{sets, length-sets, take-append_seam}
 use Rattle.std.specs.Prelude.{Result, Ok, Err}
 use Rattle.signer.proofs.ConditionalLaws.{if-elim, if-true, if-false}
 use Rattle.delivery.specs.Limits.{limits}
+use Rattle.bench.specs.Runs.{written}
 use Rattle.bench.specs.declared.show.Shown.{Shown}
 use Rattle.bench.proofs.RunLaws.{sets-written}
 use Rattle.schedule.specs.Files.{most_events, fault_number}
@@ -240,3 +241,13 @@ written-within text room r =
     _
     (λ t e. let same : r ≡ length text = cc in omega (arith, leb-true (length text) room t))
     (λ f e. let z : ◌≡◌ {A = ℕ} 0 1 = cc in absurd (omega arith))
+
+-- with room for it there is no failing, and the text is what stands at the start
+pub never-short : (text : List ℕ) (room : ℕ) (r : TooShort) → length text ≤ room → Err r ≡ report_from text room → ⊥
+unfolding report_from
+never-short text room r h e = let z : Err r ≡ Ok (length text) = e ∙ if-true _ _ _ (le-leb (length text) room h) in cc
+
+pub text-first : (text buf : List ℕ) → length text ≤ length buf → take (length text) (buffer_from text buf) ≡ text
+unfolding buffer_from written
+text-first text buf h =
+    ap (take (length text)) (if-true _ _ _ (le-leb (length text) (length buf) h)) ∙ take-append_seam text (drop (length text) buf)

@@ -178,7 +178,7 @@ module _ (bs : List ℕ) (h : count_bytes ≤ length bs) where
       (count-there bs h ∙ if-false (leb (count_at bs) most_events) _ _ (lt-leb (count_at bs) most_events t)))
 
   module _ (t : count_at bs ≤ most_events) where
-    few : section_due bs ≡ events_due (count_at bs) (drop count_bytes bs)
+    pub few : section_due bs ≡ events_due (count_at bs) (drop count_bytes bs)
     unfolding section_due
     few =
         next-got

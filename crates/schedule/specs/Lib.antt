@@ -7,4 +7,5 @@ pub mod Layouts
 pub mod Readings
 pub mod Prints
 pub mod Examples
+pub mod Stops
 pub mod Demands

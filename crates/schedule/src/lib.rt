@@ -3,6 +3,7 @@
 #![tactic(auto)]
 
 mod bus;
+mod claims;
 mod fault;
 mod file;
 mod player;
@@ -11,6 +12,7 @@ mod section;
 mod text;
 
 pub use bus::Bus;
+pub use claims::every_file;
 pub use fault::Fault;
 pub use file::Schedule;
 pub use player::play;

@@ -1,6 +1,8 @@
 ghost use Rattle.std.specs.Prelude.{◌*◌, ◌≡◌, length, take};
 ghost use Rattle.delivery.specs.Limits.{limits};
 ghost use Rattle.bench.specs.Events.{event_bytes};
+ghost use Rattle.bench.specs.Claim.{Agreement};
+ghost use Rattle.bench.specs.Demands.{played_history};
 ghost use Rattle.bench.specs.Runs.{played_of, answers_after};
 
 use bench::{Bench, Event, Played};
@@ -17,6 +19,7 @@ pub fn play(
 ) -> Played
     ensures played { result ≡ played_of limits n marks (take (event_bytes * count) events.now) (length answers.old) }
     ensures answers { answers.new ≡ answers_after limits n marks (take (event_bytes * count) events.now) answers.old }
+    ensures agreement { Agreement limits n marks (played_history (take (event_bytes * count) events.now) answers.new) result.bench }
 {
     let end = Event::BYTES * count as usize;
     Bench::play(n, marks, &events[..end.min(events.len())], answers)

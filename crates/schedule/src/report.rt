@@ -1,4 +1,4 @@
-ghost use Rattle.std.specs.Prelude.{◌*◌, ◌≤◌, ◌≡◌, length, IfOk};
+ghost use Rattle.std.specs.Prelude.{◌*◌, ◌≤◌, ◌≡◌, length, take, IfOk};
 ghost use Rattle.delivery.specs.Limits.{limits};
 ghost use Rattle.schedule.specs.Prints.{printed, report_from, buffer_from, report_lines, report_text, IsWithin, PutAt, Puts, longest_print};
 
@@ -102,5 +102,16 @@ impl Report {
         }
         Report::put(&report, out);
         Ok(length)
+    }
+
+    // The same, with room for any report.
+    pub fn print(file: &[u8], out: &mut [u8; Report::LONGEST]) -> usize
+        ensures fits { result ≤ length out.new }
+        ensures text { take result out.new ≡ printed limits file.now }
+    {
+        let Ok(length) = Report::write(file, out) else {
+            unreachable!();
+        };
+        length
     }
 }

@@ -8,3 +8,4 @@ pub mod Turns
 pub mod Announcements
 pub mod Calls
 pub mod Examples
+pub mod Sentences

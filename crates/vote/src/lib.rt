@@ -3,6 +3,7 @@
 #![tactic(auto)]
 
 mod board;
+mod claims;
 mod numbered;
 mod position;
 mod rule;
@@ -10,6 +11,7 @@ mod statement;
 mod turn;
 
 pub use board::{Board, Decision, Status};
+pub use claims::every_turn;
 pub use numbered::{Numbered, number_of};
 pub use position::{Position, Stage};
 pub use rule::Move;

@@ -1,7 +1,8 @@
-ghost use Rattle.std.specs.Prelude.{◌≡◌};
+ghost use Rattle.std.specs.Prelude.{◌≡◌, ◌≤◌};
 ghost use Rattle.delivery.specs.Limits.{limits};
 ghost use Rattle.delivery.specs.Delivered.{heard};
 ghost use Rattle.vote.specs.Ballots.{some_opened, some_with};
+ghost use Rattle.vote.specs.Sentences.{Turns, OfValues};
 ghost use Rattle.vote.specs.Rule.{open_move, may_vote, vote_move, may_count, next_estimate, onward, count_move, rule, by_round, by_position};
 
 use crate::position::{Position, Stage};
@@ -147,9 +148,10 @@ impl<'a> Outlook<'a> {
 
 impl Position {
     // What board `me` of n does in its turn. The two numbers stay apart, as in `Board::next_move`.
-    #[tactic(auto, unfolding(crate::specs::Rule::rule, crate::specs::Rule::move_at))]
+    #[tactic(auto, using(crate::proofs::Rules::turn_claims), unfolding(crate::specs::Rule::rule, crate::specs::Rule::move_at))]
     pub fn rule(&self, n: u8, me: u8, delivered: &Delivered) -> Move
-        ensures { result ≡ rule limits n me self.now (heard limits delivered.now) }
+        ensures moved { result ≡ rule limits n me self.now (heard limits delivered.now) }
+        ensures said { 1 ≤ n → OfValues (heard limits delivered.now) → Turns n me self.now (heard limits delivered.now) result }
     {
         let outlook = Outlook {
             n,

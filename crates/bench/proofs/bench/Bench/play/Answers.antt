@@ -11,17 +11,17 @@ use Rattle.std.specs.Result.{is_ok}
 use Rattle.delivery.specs.Limits.{limits}
 use Rattle.bench.specs.Events.{event_bytes}
 use Rattle.bench.specs.Setups.{fresh_bench, fresh_of}
-use Rattle.bench.specs.Runs.{after, answers_to, events_in, ending_of, played_by, events_played, written, played_of, answers_after}
+use Rattle.bench.specs.Runs.{steps, last_of, after, answers_to, events_in, ending_of, played_by, events_played, written, played_of, answers_after}
 use Rattle.bench.specs.Story.{History, history_of}
 use Rattle.bench.specs.Claim.{Agreement}
-use Rattle.bench.specs.Demands.{played_history}
+use Rattle.bench.specs.Demands.{history_from, played_history}
 use Rattle.bench.specs.declared.bench.Bench.{Bench}
 use Rattle.bench.specs.declared.event.Event.{Event}
 use Rattle.bench.specs.declared.fresh.Fresh.{Fresh}
 use Rattle.bench.specs.declared.play.Unplayed.{Unplayed}
 use Rattle.bench.specs.declared.play.Played.{Played}
 use Rattle.bench.proofs.RunLaws.{length-answers, length-written, played-fits, history-written}
-use Rattle.bench.proofs.Demands.{history_from, agreed}
+use Rattle.bench.proofs.Demands.{agreed}
 use Rattle.bench.proofs.bench.Bench.play.Goals as goal
 use Rattle.bench.proofs.bench.Bench.play.Goals.{then-is_ok, else-is_ok}
 
@@ -70,7 +70,7 @@ module _ (n : ℕ) (marks bs room : List ℕ) (f : Fresh) (x : Result (Unit {0})
       go (Err r) h = refl
 
 pub returns : goal.returns
-unfolding after answers_to written
+unfolding after answers_to written steps last_of
 returns c =
     let a = c.args in
     let bs = a.events.now in

@@ -1,0 +1,2 @@
+-- What `run` reads of a file is enough of it (RunLaws).
+pub mod RunLaws
