@@ -1,8 +1,7 @@
 -- Worked examples of sizes, rounds, sets, stores, owed copies and acceptance, with the numbers written out; letters a to c and
 -- e to k of the bench examples are among them. Letters e to k are about every value, which takes laws, so they are shown in
 -- proofs/ExampleLaws.
-use Rattle.std.specs.Prelude.{ℕ, suc, ◌≡◌, refl, Bool, true, false, eqb, Some}
-use Rattle.std.specs.Prelude as std
+use Rattle.std.specs.Prelude.{ℕ, suc, ◌≡◌, refl, Bool, true, false, eqb, None, Some}
 use Rattle.signer.specs.FromOne.{is_within, nth, set_nth}
 use Rattle.delivery.specs.Tests.{◌and◌, ◌or◌, neg}
 use Rattle.delivery.specs.Counting.{plus, count_in}
@@ -109,10 +108,10 @@ Places =
     × (index_of limits 1 64 ≡ Some 63)
     × (index_of limits 2 1 ≡ Some 64)
     × (index_of limits 7 64 ≡ Some 447)
-    × (index_of limits 0 1 ≡ std.None)
-    × (index_of limits 8 1 ≡ std.None)
-    × (index_of limits 1 0 ≡ std.None)
-    × (index_of limits 1 65 ≡ std.None)
+    × (index_of limits 0 1 ≡ None)
+    × (index_of limits 8 1 ≡ None)
+    × (index_of limits 1 0 ≡ None)
+    × (index_of limits 1 65 ≡ None)
 
 pub places : Places
 unfolding index_of index_at place_of is_within ◌and◌
@@ -149,14 +148,14 @@ abbrev pub ballot : ℕ → ℕ → Delivered → Delivered
 ballot s v d = deliver limits d s 2 v
 
 -- What it allows in round 2, among n boards: one value only, every value, or none. The blank is no value.
-abbrev pub Only : ℕ → ℕ → Delivered → Type 0
-Only v n d = (w : ℕ) → allowed limits n (heard limits d) 2 w ≡ eqb w v
+abbrev pub AllowsOnly : ℕ → ℕ → Delivered → Type 0
+AllowsOnly v n d = (w : ℕ) → allowed limits n (heard limits d) 2 w ≡ eqb w v
 
-abbrev pub Every : ℕ → Delivered → Type 0
-Every n d = (w : ℕ) → allowed limits n (heard limits d) 2 w ≡ neg (eqb w 0)
+abbrev pub AllowsEvery : ℕ → Delivered → Type 0
+AllowsEvery n d = (w : ℕ) → allowed limits n (heard limits d) 2 w ≡ neg (eqb w 0)
 
-abbrev pub None : ℕ → Delivered → Type 0
-None n d = (w : ℕ) → allowed limits n (heard limits d) 2 w ≡ false
+abbrev pub AllowsNone : ℕ → Delivered → Type 0
+AllowsNone n d = (w : ℕ) → allowed limits n (heard limits d) 2 w ≡ false
 
 -- the boards' ballots, board 1's first
 abbrev pub nine-blank : Delivered
@@ -176,22 +175,22 @@ nine-nine-blank = ballot 3 0 (ballot 2 9 (ballot 1 9 opened))
 
 -- letters e to h, of three boards, and i and j, of four
 abbrev pub LetterE : Type 0
-LetterE = Only 9 3 nine-blank
+LetterE = AllowsOnly 9 3 nine-blank
 
 abbrev pub LetterF : Type 0
-LetterF = Every 3 blank-blank
+LetterF = AllowsEvery 3 blank-blank
 
 abbrev pub LetterG : Type 0
-LetterG = Every 3 nine-blank-blank
+LetterG = AllowsEvery 3 nine-blank-blank
 
 abbrev pub LetterH : Type 0
-LetterH = None 3 nine-alone
+LetterH = AllowsNone 3 nine-alone
 
 abbrev pub LetterI : Type 0
-LetterI = Every 4 nine-blank-blank
+LetterI = AllowsEvery 4 nine-blank-blank
 
 abbrev pub LetterJ : Type 0
-LetterJ = Only 9 4 nine-nine-blank
+LetterJ = AllowsOnly 9 4 nine-nine-blank
 
 -- letter k, among n boards: a ballot of board 2 with any value v and no opening. The ballot is there, and no
 -- ballot with a value is accepted.
