@@ -35,8 +35,8 @@ impl From<u16> for BoardSet {
 }
 
 impl BoardSet {
-    // How many numbers a set has a bit for: `u16::BITS`, written out, since the code gives each limit its number once
-    // (a rule of the project).
+    /// How many numbers a set has a bit for: `u16::BITS`, written out, since the code gives each limit its number once
+    /// (a rule of the project).
     pub const BITS: u8 = 16;
 
     pub fn empty() -> BoardSet
