@@ -11,6 +11,7 @@ use Rattle.delivery.specs.Limits.{Limits}
 use Rattle.delivery.specs.Bus.{quorum, overlap}
 use Rattle.delivery.specs.Delivered.{Store}
 use Rattle.delivery.specs.Acceptance.{bears, counts, allowed_after, allowed, accepts_ballot}
+pub use Rattle.delivery.specs.Claims.{Won}
 use Rattle.delivery.proofs.CountLaws.{count-mono, find, quorums-meet, overlap-pos, overlap-le}
 use Rattle.delivery.proofs.ChoosingLaws.{choice-shares}
 use Rattle.delivery.proofs.OneRoundLaws.{Opens, reads-opens, one-opening, counts-reads, reads-bears, ballot-opened, Divided, AllowedNext, after-reads, carried-opened}
@@ -61,11 +62,6 @@ module _ (L : Limits) (n : ℕ) (h : Store) (may : ℕ → Bool) (r : ℕ) (some
       one-opening L n h may r w v (reads-opens L n h may r w p) (reads-opens L n h may r v (quorum-opened v z o)))
       (λ d. absurd (quorum-crosses v z o w x d.0))
       (after-cases w x)
-
--- q or more accepted ballots of r bear v, which is not the blank
-pub record Won (L : Limits) (n : ℕ) (h : Store) (r v : ℕ) : Type 0 where
-  pub value : v ≡ 0 → ⊥
-  pub quorum-bears : quorum n ≤ count_in n (λ (s : ℕ). accepts_ballot L n h r s v)
 
 module _ (L : Limits) (n : ℕ) (h : Store) (some : 1 ≤ n) where
   -- what is allowed in a round was allowed in each round before it, from round 1 on

@@ -1,7 +1,7 @@
 -- Who is owed a copy after a signature and after a delivery, board by board. Assumes nothing.
 use Prim.Native.Nat.{ℕ, ◌≤◌}
 use mathlib.Core.Path.{◌≡◌}
-use mathlib.Core.Bool.{true, false}
+use mathlib.Core.Bool.{true}
 use mathlib.Core.Logic.{◌⊎◌, inl, inr, ⊎_elim}
 use borrow.Author.Tests.{ne_eqb, eqb-false}
 use lib.Dec.{eqb}
@@ -12,15 +12,10 @@ use Rattle.delivery.specs.Bus.{is_board}
 use Rattle.delivery.specs.Sets.{in_set, bits}
 use Rattle.delivery.specs.Owed.{receivers, lacks, after_signing, after_delivery}
 use Rattle.delivery.specs.declared.owed.Owed.{Owed}
+pub use Rattle.delivery.specs.Claims.{Lacks}
 use Rattle.delivery.proofs.TestLaws.{and_left, and_right, and_in, or_cases, or_left, or_right, neg-true, neg-in}
 use Rattle.delivery.proofs.SetLaws.{in-set_of-within, in-set_of-passes}
 use Rattle.delivery.proofs.OwedLaws.{Whole, signing-here, delivery-here}
-
--- a board lacks a statement: it is sound, is not the speaker, and has not delivered it
-pub record Lacks (sound have s k : ℕ) : Type 0 where
-  pub is-sound : in_set sound k ≡ true
-  pub other : k ≡ s → ⊥
-  pub has-not : in_set have k ≡ false
 
 pub lacks-reads : (sound have s k : ℕ) → lacks sound have s k ≡ true → Lacks sound have s k
 unfolding lacks

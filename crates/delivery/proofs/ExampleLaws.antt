@@ -13,7 +13,7 @@ use Rattle.delivery.specs.Limits.{limits}
 use Rattle.delivery.specs.Rounds.{coordinator, phase_of, identifier_of}
 use Rattle.delivery.specs.Delivered.{place_of, heard_in, nothing_delivered, heard, deliver}
 use Rattle.delivery.specs.Acceptance.{says, bears, backs, allowed}
-use Rattle.delivery.specs.Pass.{lets}
+use Rattle.delivery.specs.Private.{lets}
 use Rattle.delivery.specs.declared.allowance.Allowance.{Allowance}
 use Rattle.delivery.specs.declared.allowance.Allowance.TheVariants.{Nothing, Every, Only}
 use Rattle.delivery.specs.Examples.{nine-blank, blank-blank, nine-blank-blank, nine-alone, nine-nine-blank, unopened, LetterE, LetterF, LetterG, LetterH, LetterI, LetterJ, LetterK}

@@ -21,11 +21,8 @@ use Rattle.delivery.proofs.DeliveredLaws.{deliver-keeps}
 use Rattle.delivery.proofs.ChoosingLaws.{count-alike}
 use Rattle.delivery.proofs.OneRoundLaws.{Opens, Counts, Divided, Carries, after-reads, reads-after}
 use Rattle.delivery.proofs.AllRoundsLaws.{opening-reads, reads-opening, ballot-reads, reads-ballot, accepted-reads, reads-accepted}
-use Rattle.delivery.proofs.AgreementLaws.{Won}
-
--- what stands in h stands in h' too
-pub record Grows (h h' : Store) : Type 0 where
-  pub keeps : (s i : ℕ) → (h s i ≡ 0 → ⊥) → h' s i ≡ h s i
+pub use Rattle.delivery.specs.Claims.{Grows}
+use Rattle.delivery.specs.Claims.{Won}
 
 -- as a store stands it grows, and so it does step by step
 pub grows_same : (h : Store) → Grows h h

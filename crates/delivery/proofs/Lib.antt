@@ -12,6 +12,8 @@ pub mod AllRoundsLaws
 pub mod AgreementLaws
 pub mod GrowthLaws
 pub mod AllowanceLaws
+pub mod SpeakerLaws
 pub mod PassLaws
+pub mod ClaimLaws
 pub mod ExampleLaws
 pub mod Rules

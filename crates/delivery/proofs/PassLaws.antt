@@ -20,7 +20,7 @@ use Rattle.delivery.specs.Rounds.{identifier_of}
 use Rattle.delivery.specs.Sets.{set_of, bits, union}
 use Rattle.delivery.specs.Delivered.{Store, heard_in}
 use Rattle.delivery.specs.Acceptance.{says, opening_entry, ballot_entry, bears, backs, allowed_after, allowed, opens, accepts_some}
-use Rattle.delivery.specs.Pass.{lets}
+use Rattle.delivery.specs.Private.{lets}
 use Rattle.delivery.specs.declared.allowance.Allowance.{Allowance}
 use Rattle.delivery.specs.declared.allowance.Allowance.TheVariants.{Nothing, Every, Only}
 use Rattle.delivery.specs.declared.round.Phase.TheVariants.{Ballot}

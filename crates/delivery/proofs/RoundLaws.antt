@@ -28,6 +28,14 @@ pub identifier-none : (L : Limits) (p : Phase) (r : ℕ) → is_round L r ≡ fa
 unfolding identifier_of
 identifier-none L p r h = if-false (is_round L r) (phase_of p r) 0 h
 
+pub identifier-opening : (L : Limits) (r : ℕ) → is_round L r ≡ true → identifier_of L Opening r ≡ 2 * r - 1
+unfolding phase_of
+identifier-opening L r h = identifier-at L Opening r h
+
+pub identifier-ballot : (L : Limits) (r : ℕ) → is_round L r ≡ true → identifier_of L Ballot r ≡ 2 * r
+unfolding phase_of
+identifier-ballot L r h = identifier-at L Ballot r h
+
 -- two statements of rounds that share an identifier are of one round and one phase
 phase-apart : (p p' : Phase) (r r' : ℕ) → 1 ≤ r → 1 ≤ r' → phase_of p r ≡ phase_of p' r' → (p ≡ p') × (r ≡ r')
 unfolding phase_of

@@ -398,6 +398,11 @@ in-unnumbered m k l h = in-outside bits m k l (within-out bits k h)
 pub with-unnumbered : (m k : ℕ) → m < 2 ^ bits → is_within bits k ≡ false → with_board m k ≡ m
 with-unnumbered m k l h = with_none m k l (within-out bits k h)
 
+-- the set of 1 to 1 that pass is board 1 alone, if it passes
+pub set_one : (p : ℕ → Bool) → p 1 ≡ true → set_of 1 p ≡ with_board 0 1
+unfolding set_of with_board in_set ◌or◌
+set_one p h = rw h
+
 -- a board alone, joined to a set
 pub shifted-alone : (k : ℕ) → is_within bits k ≡ true → 1 * 2 ^ (k - 1) % 2 ^ bits ≡ with_board 0 k
 unfolding with_board ◌or◌

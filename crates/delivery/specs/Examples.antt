@@ -1,24 +1,27 @@
--- Document 01, "Bench examples": those that are about rounds, boards and acceptance. Letters a, b and c are
--- shown here; e to k are about every value, which takes laws, so they are stated here and shown in
+-- Worked examples of sizes, rounds, sets, stores, owed copies and acceptance, with the numbers written out; letters a to c and
+-- e to k of the bench examples are among them. Letters e to k are about every value, which takes laws, so they are shown in
 -- proofs/ExampleLaws.
-use Rattle.std.specs.Prelude.{ℕ, ◌≡◌, refl, false, eqb}
-use Rattle.signer.specs.FromOne.{is_within}
-use Rattle.signer.specs.Log.{identifiers, entry_of}
-use Rattle.delivery.specs.Tests.{neg}
+use Rattle.std.specs.Prelude.{ℕ, suc, ◌≡◌, refl, Bool, true, false, eqb, None, Some}
+use Rattle.signer.specs.FromOne.{is_within, nth, set_nth}
+use Rattle.delivery.specs.Tests.{◌and◌, ◌or◌, neg}
+use Rattle.delivery.specs.Counting.{plus, count_in}
 use Rattle.delivery.specs.Limits.{limits}
 use Rattle.delivery.specs.Bus.{faults, quorum, overlap}
-use Rattle.delivery.specs.Rounds.{coordinator, phase_of, identifier_of}
-use Rattle.delivery.specs.Delivered.{nothing_delivered, heard, deliver}
+use Rattle.delivery.specs.Rounds.{coordinator, phase_of, identifier_of, next_round}
+use Rattle.delivery.specs.Sets.{in_set, set_of, with_board, without_board, union, minus}
+use Rattle.delivery.specs.Delivered.{place_of, index_at, index_of, nothing_delivered, heard, deliver}
+use Rattle.delivery.specs.Owed.{no_copies, receivers_at, with_receivers_at, nothing_owed, copies_of, with_copies, receivers, with_receivers, lacks, after_signing, after_delivery}
 use Rattle.delivery.specs.Acceptance.{allowed, accepts_ballot}
 use Rattle.delivery.specs.declared.delivered.Delivered.{Delivered}
+use Rattle.delivery.specs.declared.owed.Owed.{Owed}
 use Rattle.delivery.specs.declared.round.Phase.TheVariants.{Opening, Ballot}
 
--- letter a: f, q and e of 1, 2, 3 and 4 boards, and of as many as there can be
+-- letter a: f, q and e of 1, 2, 3, 4 and 7 boards
 abbrev pub Sizes : ℕ → ℕ → ℕ → ℕ → Type 0
 Sizes n f q e = (faults n ≡ f) × (quorum n ≡ q) × (overlap n ≡ e)
 
 abbrev pub LetterA : Type 0
-LetterA = (Sizes 1 0 1 1) × (Sizes 2 0 2 2) × (Sizes 3 1 2 1) × (Sizes 4 1 3 2) × (Sizes limits.boards 3 4 1)
+LetterA = (Sizes 1 0 1 1) × (Sizes 2 0 2 2) × (Sizes 3 1 2 1) × (Sizes 4 1 3 2) × (Sizes 7 3 4 1)
 
 pub letter-a : LetterA
 letter-a = (
@@ -37,30 +40,122 @@ pub letter-b : LetterB
 unfolding coordinator
 letter-b = (refl, refl, refl, refl)
 
+-- and of other buses: of one board, and of seven
+abbrev pub Coordinators : Type 0
+Coordinators = (coordinator 1 1 ≡ 1) × (coordinator 1 32 ≡ 1) × (coordinator 7 7 ≡ 7) × (coordinator 7 8 ≡ 1) × (coordinator 7 32 ≡ 4)
+
+pub coordinators : Coordinators
+unfolding coordinator
+coordinators = (refl, refl, refl, refl, refl)
+
 -- letter c: the identifiers of the last round; its ballot's is the highest that there is
 abbrev pub LetterC : Type 0
-LetterC = (identifier_of limits Opening limits.rounds ≡ 63) × (identifier_of limits Ballot limits.rounds ≡ identifiers)
+LetterC = (identifier_of limits Opening 32 ≡ 63) × (identifier_of limits Ballot 32 ≡ 64)
 
 pub letter-c : LetterC
 unfolding identifier_of phase_of is_within
 letter-c = (refl, refl)
 
--- A board that has delivered the opening of round 1 with 9, which board 1 sends, and some ballots of round 1.
+-- those of the first round, and that what is no round has none, which is 0
+abbrev pub Identifiers : Type 0
+Identifiers =
+    (identifier_of limits Opening 1 ≡ 1)
+    × (identifier_of limits Ballot 1 ≡ 2)
+    × (identifier_of limits Opening 0 ≡ 0)
+    × (identifier_of limits Ballot 0 ≡ 0)
+    × (identifier_of limits Opening 33 ≡ 0)
+    × (identifier_of limits Ballot 33 ≡ 0)
+
+pub identifiers_of_rounds : Identifiers
+unfolding identifier_of phase_of is_within
+identifiers_of_rounds = (refl, refl, refl, refl, refl, refl)
+
+-- after round 1 comes 2, after 31 the last, and the last stays
+abbrev pub NextRounds : Type 0
+NextRounds = (next_round limits 1 ≡ 2) × (next_round limits 31 ≡ 32) × (next_round limits 32 ≡ 32)
+
+pub next-rounds : NextRounds
+unfolding next_round
+next-rounds = (refl, refl, refl)
+
+-- board k is bit k - 1 of a set: boards 1 and 3 are the set 5, board 16 alone is 32,768, and 17 has no bit
+abbrev pub Masks : Type 0
+Masks =
+    (in_set 5 0 ≡ false)
+    × (in_set 5 1 ≡ true)
+    × (in_set 5 2 ≡ false)
+    × (in_set 5 3 ≡ true)
+    × (in_set 65535 16 ≡ true)
+    × (in_set 65535 17 ≡ false)
+    × (with_board 0 1 ≡ 1)
+    × (with_board 5 2 ≡ 7)
+    × (with_board 0 16 ≡ 32768)
+    × (with_board 0 17 ≡ 0)
+    × (without_board 7 2 ≡ 5)
+    × (union 5 6 ≡ 7)
+    × (minus 7 5 ≡ 2)
+    × (count_in 3 (in_set 5) ≡ 2)
+    × (count_in 2 (in_set 5) ≡ 1)
+
+pub masks : Masks
+unfolding in_set set_of with_board without_board union minus count_in plus ◌and◌ ◌or◌ neg
+masks = (refl, refl, refl, refl, refl, refl, refl, refl, refl, refl, refl, refl, refl, refl, refl)
+
+-- where statements stand: a row for each of seven boards, and in it 64 places
+abbrev pub Places : Type 0
+Places =
+    (index_of limits 1 1 ≡ Some 0)
+    × (index_of limits 1 64 ≡ Some 63)
+    × (index_of limits 2 1 ≡ Some 64)
+    × (index_of limits 7 64 ≡ Some 447)
+    × (index_of limits 0 1 ≡ None)
+    × (index_of limits 8 1 ≡ None)
+    × (index_of limits 1 0 ≡ None)
+    × (index_of limits 1 65 ≡ None)
+
+pub places : Places
+unfolding index_of index_at place_of is_within ◌and◌
+places = (refl, refl, refl, refl, refl, refl, refl, refl)
+
+-- copies of what board 1 said under 1, of three boards: it is sound and signed, so they are owed to 2 and 3 (the set 6); then 2
+-- delivers it, and one is owed to 3 (the set 4); then 3 does, and none is. A faulty board 1 makes none owed by signing, but
+-- one is to 3 as soon as 2 delivers.
+abbrev pub signed_by_one : Owed
+signed_by_one = after_signing limits (nothing_owed limits) 1 1 7 1
+
+abbrev pub delivered_by_two : Owed
+delivered_by_two = after_delivery limits signed_by_one 2 1 1 7 3
+
+abbrev pub Copies : Type 0
+Copies =
+    (receivers limits signed_by_one 1 1 ≡ 6)
+    × (receivers limits delivered_by_two 1 1 ≡ 4)
+    × (receivers limits (after_delivery limits delivered_by_two 3 1 1 7 7) 1 1 ≡ 0)
+    × (receivers limits (after_delivery limits (nothing_owed limits) 2 1 1 6 2) 1 1 ≡ 4)
+
+pub copies : Copies
+unfolding
+    after_signing after_delivery nothing_owed no_copies receivers receivers_at with_receivers with_receivers_at copies_of with_copies
+    lacks in_set set_of nth set_nth ◌and◌ ◌or◌ neg
+copies = (refl, refl, refl, refl)
+
+-- A board that has delivered the opening of round 1 with 9, which board 1 sends under 1, and some ballots of round 1, which are
+-- sent under 2.
 abbrev pub opened : Delivered
-opened = deliver limits (nothing_delivered limits) 1 (identifier_of limits Opening 1) 9
+opened = deliver limits (nothing_delivered limits) 1 1 9
 
 abbrev pub ballot : ℕ → ℕ → Delivered → Delivered
-ballot s v d = deliver limits d s (identifier_of limits Ballot 1) v
+ballot s v d = deliver limits d s 2 v
 
 -- What it allows in round 2, among n boards: one value only, every value, or none. The blank is no value.
-abbrev pub Only : ℕ → ℕ → Delivered → Type 0
-Only v n d = (w : ℕ) → allowed limits n (heard limits d) 2 w ≡ eqb w v
+abbrev pub AllowsOnly : ℕ → ℕ → Delivered → Type 0
+AllowsOnly v n d = (w : ℕ) → allowed limits n (heard limits d) 2 w ≡ eqb w v
 
-abbrev pub Every : ℕ → Delivered → Type 0
-Every n d = (w : ℕ) → allowed limits n (heard limits d) 2 w ≡ neg (eqb w 0)
+abbrev pub AllowsEvery : ℕ → Delivered → Type 0
+AllowsEvery n d = (w : ℕ) → allowed limits n (heard limits d) 2 w ≡ neg (eqb w 0)
 
-abbrev pub None : ℕ → Delivered → Type 0
-None n d = (w : ℕ) → allowed limits n (heard limits d) 2 w ≡ false
+abbrev pub AllowsNone : ℕ → Delivered → Type 0
+AllowsNone n d = (w : ℕ) → allowed limits n (heard limits d) 2 w ≡ false
 
 -- the boards' ballots, board 1's first
 abbrev pub nine-blank : Delivered
@@ -80,22 +175,22 @@ nine-nine-blank = ballot 3 0 (ballot 2 9 (ballot 1 9 opened))
 
 -- letters e to h, of three boards, and i and j, of four
 abbrev pub LetterE : Type 0
-LetterE = Only 9 3 nine-blank
+LetterE = AllowsOnly 9 3 nine-blank
 
 abbrev pub LetterF : Type 0
-LetterF = Every 3 blank-blank
+LetterF = AllowsEvery 3 blank-blank
 
 abbrev pub LetterG : Type 0
-LetterG = Every 3 nine-blank-blank
+LetterG = AllowsEvery 3 nine-blank-blank
 
 abbrev pub LetterH : Type 0
-LetterH = None 3 nine-alone
+LetterH = AllowsNone 3 nine-alone
 
 abbrev pub LetterI : Type 0
-LetterI = Every 4 nine-blank-blank
+LetterI = AllowsEvery 4 nine-blank-blank
 
 abbrev pub LetterJ : Type 0
-LetterJ = Only 9 4 nine-nine-blank
+LetterJ = AllowsOnly 9 4 nine-nine-blank
 
 -- letter k, among n boards: a ballot of board 2 with any value v and no opening. The ballot is there, and no
 -- ballot with a value is accepted.
@@ -105,7 +200,7 @@ unopened v = ballot 2 v (nothing_delivered limits)
 abbrev pub Unopened : ℕ → Type 0
 Unopened n =
     (v : ℕ)
-    → (heard limits (unopened v) 2 (identifier_of limits Ballot 1) ≡ entry_of v)
+    → (heard limits (unopened v) 2 2 ≡ suc v)
     × ((s w : ℕ) → (w ≡ 0 → ⊥) → accepts_ballot limits n (heard limits (unopened v)) 1 s w ≡ false)
 
 abbrev pub LetterK : Type 0

@@ -1,7 +1,7 @@
--- What a reader must believe of delivery, in the order of document 01: "Words and sizes" (Limits, Bus,
--- Rounds, Sets), "Delivery" (Delivered, Owed), "What a board accepts" (Acceptance), and letters a to c and
--- e to k of "Bench examples" (Examples). Tests and Counting hold the notions of general use that these are
--- written in; Pass is of the program alone.
+-- What a reader must believe of delivery, in this order: sizes (Limits, Bus, Rounds, Sets), what is delivered and owed
+-- (Delivered, Owed), what a board accepts (Acceptance), what holds of every store and of every record of owed copies
+-- (Claims), and worked examples, letters a to c and e to k among them (Examples). Tests and Counting hold the notions of
+-- general use that these are written in. What private calls alone promise by stands apart (Private).
 pub mod Tests
 pub mod Counting
 pub mod Limits
@@ -11,5 +11,6 @@ pub mod Sets
 pub mod Delivered
 pub mod Owed
 pub mod Acceptance
+pub mod Claims
 pub mod Examples
-pub mod Pass
+pub mod Private

@@ -2,7 +2,7 @@ ghost use Rattle.std.specs.Prelude.{ℕ, ◌+◌, ◌-◌, min, ◌≡◌, leb};
 ghost use Rattle.std.specs.Prelude.{if◌then◌else◌};
 ghost use Rattle.delivery.specs.Bus.{quorum, overlap};
 ghost use Rattle.delivery.specs.Acceptance.{says};
-ghost use Rattle.delivery.specs.Pass.{lets};
+ghost use Rattle.delivery.specs.Private.{lets};
 ghost use Rattle.delivery.specs.declared.allowance.Allowance.TheVariants.{Nothing, Only};
 
 use crate::bus;

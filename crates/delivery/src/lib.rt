@@ -4,12 +4,14 @@
 
 mod allowance;
 pub mod bus;
+mod claims;
 mod delivered;
 mod owed;
 mod poll;
 mod round;
 mod set;
 
+pub use claims::{every_copy, every_limit, every_store, worked_examples};
 pub use delivered::Delivered;
 pub use owed::{Copies, Owed};
 pub use poll::Poll;

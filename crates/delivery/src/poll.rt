@@ -4,7 +4,7 @@ ghost use Rattle.delivery.specs.Limits.{limits};
 ghost use Rattle.delivery.specs.Sets.{set_of};
 ghost use Rattle.delivery.specs.Delivered.{heard};
 ghost use Rattle.delivery.specs.Acceptance.{says, opening_entry, backs, allowed, accepts_opening, accepts_ballot, accepts_some};
-ghost use Rattle.delivery.specs.Pass.{lets};
+ghost use Rattle.delivery.specs.Private.{lets};
 
 use crate::allowance::Allowance;
 use crate::delivered::Delivered;

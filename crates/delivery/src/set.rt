@@ -35,9 +35,9 @@ impl From<u16> for BoardSet {
 }
 
 impl BoardSet {
-    // How many numbers a set has a bit for: `u16::BITS`, written out, since the code gives each limit its number once
-    // (a rule of the project).
-    const BITS: u8 = 16;
+    /// How many numbers a set has a bit for: `u16::BITS`, written out, since the code gives each limit its number once
+    /// (a rule of the project).
+    pub const BITS: u8 = 16;
 
     pub fn empty() -> BoardSet
         ensures { result ≡ 0 }

@@ -2,7 +2,7 @@
 use Prim.Native.Nat.{ℕ, zero, suc, ◌+◌, ◌-◌, ◌≤◌, ◌<◌}
 use mathlib.Core.Path.{◌≡◌, refl, sym, ap, ◌∙◌}
 use mathlib.Core.Bool.{true, false}
-use borrow.Author.Tests.{le-leb, leb-true, leb-false}
+use borrow.Author.Tests.{le-leb, lt-leb, leb-true, leb-false}
 use lib.Dec.{leb}
 use mathlib.Core.List.{List}
 use mathlib.Core.Logic.{◌⊎◌, inl, inr}
@@ -42,6 +42,9 @@ module _ (limit k : ℕ) where
   pub within-zero : k ≡ 0 → is_within limit k ≡ false
   unfolding is_within
   within-zero e = rw e
+
+  pub within-above : limit < k → is_within limit k ≡ false
+  within-above h = within-test (omega arith) ∙ lt-leb k limit h
 
 from_one : (k : ℕ) → 1 ≤ k → k ≡ suc (k - 1)
 from_one k h = omega arith

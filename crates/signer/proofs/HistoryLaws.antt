@@ -1,10 +1,11 @@
 -- Laws of a list of requests: what stands at the end is exactly what was signed on the way, once and for
 -- good. The last section has them for a fresh signer. Assumes nothing.
-use Prim.Native.Nat.{ℕ, ◌≤◌}
+use Prim.Native.Nat.{ℕ, ◌≤◌, ◌<◌}
 use native.Mathlib.Omega.{arith}
 use mathlib.Core.Path.{◌≡◌, refl, ap, sym, ◌∙◌}
 use mathlib.Core.Bool.{Bool, true, false}
 use mathlib.Core.Logic.{◌⊎◌, inl, inr, ⊎_elim}
+use Rattle.std.specs.Prelude.{◌↔◌}
 use mathlib.Core.List.Memᴰ
 use mathlib.Core.List.{
   List,
@@ -12,10 +13,17 @@ use mathlib.Core.List.{
   ◌∷◌,
   ◌++◌,
 }
+use Rattle.signer.specs.Log.{entry_at}
 use Rattle.signer.specs.Signer.{Request, fresh_signer, Signed, WasSigned, grants, ask, after, history}
 use Rattle.signer.specs.declared.signer.Signer.{Signer}
+use Rattle.signer.proofs.FromOneLaws.{within-high, within_in}
 use Rattle.signer.proofs.SignerLaws.{
   WellFormed,
+  fresh-last,
+  blank_stands,
+  grants-only,
+  grants-above,
+  sign-reached,
   fresh-wellformed,
   fresh-unsigned,
   signed-one,
@@ -65,6 +73,19 @@ module _ (limit : ℕ) where
   after-rises s [] = omega arith
   after-rises s (r ∷ rs) =
       omega (arith, sign-rises limit s r.identifier r.value, after-rises (ask limit s r).signer rs)
+
+  -- `last` is 0, or what was signed under it stands
+  pub after-reached : (s : Signer) (rs : List Request) → WellFormed limit s
+      → (s.last.0 ≡ 0) ⊎ ((v : ℕ) × Signed s s.last.0 v)
+      → ((after limit s rs).last.0 ≡ 0) ⊎ ((v : ℕ) × Signed (after limit s rs) (after limit s rs).last.0 v)
+  unfolding after
+  after-reached s [] w h = h
+  after-reached s (r ∷ rs) w h =
+      after-reached
+      (ask limit s r).signer
+      rs
+      (sign-wellformed limit s r.identifier r.value w)
+      (sign-reached limit s r.identifier r.value w h)
 
   pub after-wellformed : (s : Signer) (rs : List Request) → WellFormed limit s → WellFormed limit (after limit s rs)
   unfolding after
@@ -164,3 +185,61 @@ module _ (limit : ℕ) (rs : List Request) where
       → WasSigned limit (fresh_signer limit) rs i v → WasSigned limit (fresh_signer limit) rs i u → v ≡ u
   one_value i v u p q =
       signed-one (after limit (fresh_signer limit) rs) i v u (fresh-was-stands i v p) (fresh-was-stands i u q)
+
+  pub fresh-as : (i v : ℕ) → WasSigned limit (fresh_signer limit) rs i v ↔ Signed (after limit (fresh_signer limit) rs) i v
+  fresh-as i v = (fresh-was-stands i v, fresh-stands-was i v)
+
+  -- `last` is the highest identifier signed
+  pub fresh-highest : (((after limit (fresh_signer limit) rs).last.0 ≡ 0)
+      ⊎ ((v : ℕ) × Signed (after limit (fresh_signer limit) rs) (after limit (fresh_signer limit) rs).last.0 v))
+      × ((i v : ℕ) → Signed (after limit (fresh_signer limit) rs) i v → i ≤ (after limit (fresh_signer limit) rs).last.0)
+  fresh-highest = (after-reached limit (fresh_signer limit) rs (fresh-wellformed limit) (inl (fresh-last limit)), fresh-capped)
+
+  pub fresh-rises : (ys : List Request)
+      → (after limit (fresh_signer limit) rs).last.0 ≤ (after limit (fresh_signer limit) (rs ++ ys)).last.0
+  fresh-rises ys = rw after-append (after-rises limit (after limit (fresh_signer limit) rs) ys)
+
+  -- one request more: when it is granted, and that it counts for nothing where it is not
+  pub fresh-granted : (r : Request) → ((ask limit (after limit (fresh_signer limit) rs) r).signed ≡ true)
+      ↔ (((after limit (fresh_signer limit) rs).last.0 < r.identifier) × (r.identifier ≤ limit))
+  fresh-granted r = (
+    λ h.
+        let g = grants-only limit (after limit (fresh_signer limit) rs) r.identifier (sym (answer r) ∙ h) in
+        (g.1, within-high limit r.identifier g.0),
+    λ h.
+        answer r
+        ∙ grants-above
+        limit
+        (after limit (fresh_signer limit) rs)
+        r.identifier
+        (within_in limit r.identifier (omega (arith, h.0)) h.1)
+        h.0,
+  )
+    where
+      answer : (r : Request)
+          → (ask limit (after limit (fresh_signer limit) rs) r).signed ≡ grants limit (after limit (fresh_signer limit) rs) r.identifier
+      answer r = sign-answer limit (after limit (fresh_signer limit) rs) r.identifier r.value
+
+  pub fresh-blank : (i : ℕ) → Signed (after limit (fresh_signer limit) rs) i 0
+      → entry_at (after limit (fresh_signer limit) rs).log i ≡ 0 → ⊥
+  fresh-blank = blank_stands (after limit (fresh_signer limit) rs)
+
+  refused : (r : Request) → (ask limit (after limit (fresh_signer limit) rs) r).signed ≡ false
+      → grants limit (after limit (fresh_signer limit) rs) r.identifier ≡ false
+  refused r h = sym (sign-answer limit (after limit (fresh_signer limit) rs) r.identifier r.value) ∙ h
+
+  pub fresh-unchanged : (r : Request) → (ask limit (after limit (fresh_signer limit) rs) r).signed ≡ false
+      → (ask limit (after limit (fresh_signer limit) rs) r).signer ≡ after limit (fresh_signer limit) rs
+  fresh-unchanged r h = sign-refused limit (after limit (fresh_signer limit) rs) r.identifier r.value (refused r h)
+
+  pub fresh-skipped : (ys : List Request) (r : Request) → (ask limit (after limit (fresh_signer limit) rs) r).signed ≡ false
+      → (after limit (fresh_signer limit) (rs ++ r ∷ ys) ≡ after limit (fresh_signer limit) (rs ++ ys))
+      × (history limit (fresh_signer limit) (rs ++ r ∷ ys)
+      ≡ history limit (fresh_signer limit) rs ++ (r, false) ∷ history limit (after limit (fresh_signer limit) rs) ys)
+      × (history limit (fresh_signer limit) (rs ++ ys)
+      ≡ history limit (fresh_signer limit) rs ++ history limit (after limit (fresh_signer limit) rs) ys)
+  fresh-skipped ys r h = (
+    after-skips limit (fresh_signer limit) rs r ys (refused r h),
+    history-skips limit (fresh_signer limit) rs r ys (refused r h),
+    history-append limit (fresh_signer limit) rs ys,
+  )

@@ -2,7 +2,7 @@
 use Prim.Native.Nat.{ℕ, ◌≤◌, ◌<◌}
 use native.Mathlib.Omega.{arith}
 use mathlib.Core.Path.{◌≡◌, refl, sym, ◌∙◌}
-use mathlib.Core.Bool.{true, false, true≢false}
+use mathlib.Core.Bool.{Bool, true, false, true≢false}
 use mathlib.Core.Logic.{◌⊎◌, inl, inr, ⊎_elim}
 use borrow.Author.Tests.{ltb-true, lt-ltb}
 use lib.Dec.{ltb}
@@ -164,6 +164,17 @@ module _ (limit : ℕ) (s : Signer) (i v : ℕ) where
             (λ p. omega (arith, sign-last p.0))
             (sign-only w j u h);
       }
+
+-- `last` is 0, or what was signed under it stands
+pub sign-reached : (limit : ℕ) (s : Signer) (i v : ℕ) → WellFormed limit s
+    → (s.last.0 ≡ 0) ⊎ ((u : ℕ) × Signed s s.last.0 u)
+    → ((sign limit s i v).signer.last.0 ≡ 0) ⊎ ((u : ℕ) × Signed (sign limit s i v).signer (sign limit s i v).signer.last.0 u)
+sign-reached limit s i v w h = go (grants limit s i) refl
+  where
+    go : (b : Bool) → grants limit s i ≡ b
+        → ((sign limit s i v).signer.last.0 ≡ 0) ⊎ ((u : ℕ) × Signed (sign limit s i v).signer (sign limit s i v).signer.last.0 u)
+    go true g = inr (v, rw (sign-last limit s i v g) (sign-stands limit s i v w g))
+    go false g = rw (sign-refused limit s i v g) h
 
 -- whether a request is granted does not depend on its value
 pub value-alike : (limit : ℕ) (s : Signer) (i v u : ℕ) → (sign limit s i v).signed ≡ (sign limit s i u).signed

@@ -2,11 +2,13 @@
 // rounds, boards or votes.
 #![tactic(auto)]
 
+mod claims;
 pub mod from_one;
 mod identifier;
 mod log;
 mod signer;
 
+pub use claims::{every_history, every_limit, worked_examples};
 pub use identifier::Identifier;
 pub use log::Log;
 pub use signer::Signer;

@@ -4,7 +4,7 @@ use mathlib.Core.Path.{◌≡◌}
 use Rattle.delivery.specs.Limits.{limits}
 use Rattle.delivery.specs.Delivered.{heard}
 use Rattle.delivery.specs.Acceptance.{allowed}
-use Rattle.delivery.specs.Pass.{lets}
+use Rattle.delivery.specs.Private.{lets}
 use Rattle.delivery.proofs.poll.Poll.allowance.Given as goal
 
 abbrev pub invariant-loop-r : goal.invariant-loop-r

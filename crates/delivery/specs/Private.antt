@@ -1,5 +1,5 @@
--- What the program carries over the rounds in place of the test which values are allowed. No open call is told by
--- it, so a reader need not believe it.
+-- What private calls alone promise by; whoever believes the open calls need not read it. It is what the program carries over
+-- the rounds in place of the test which values are allowed.
 use Rattle.std.specs.Prelude.{ℕ, Bool, false, eqb}
 use Rattle.signer.specs.Log.{entry_of}
 use Rattle.delivery.specs.Tests.{◌and◌, neg}
