@@ -8,5 +8,5 @@ pub mod ProperLaws
 pub mod LifeLaws
 pub mod EstimateLaws
 pub mod ExampleLaws
-pub mod SentenceLaws
+pub mod MoveLaws
 pub mod Rules

@@ -1,9 +1,8 @@
-ghost use Rattle.vote.specs.Sentences.{Turning, Leading};
+ghost use Rattle.vote.specs.Moves.{SameMove, SameTurn};
 
-// What is claimed of the rule of a turn, for every position and store: a board's move is the rule's exactly where the
-// sentences of `Turns` have it so, and in each round it comes to what `Leads` has it come to. It does nothing when it is called.
-#[tactic(auto, using(crate::proofs::Rules::turn_claims))]
+/// Claims that a turn is what `Moves`, `Leads` and `Takes` say in words of their own, for every board and all that it can have
+/// delivered. It does nothing when it is called.
 pub fn every_turn()
-    ensures sentences { Turning }
-    ensures leads { Leading }
+    ensures moves { SameMove }
+    ensures turns { SameTurn }
 {}
