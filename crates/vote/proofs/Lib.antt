@@ -7,6 +7,7 @@ pub mod SigningLaws
 pub mod ProperLaws
 pub mod LifeLaws
 pub mod EstimateLaws
+pub mod ClaimLaws
 pub mod ExampleLaws
 pub mod MoveLaws
 pub mod Rules

@@ -8,6 +8,7 @@ pub mod Rule
 pub mod Turns
 pub mod Announcements
 pub mod Calls
+pub mod Life
 pub mod Examples
 pub mod Moves
 pub mod Private
