@@ -1,5 +1,6 @@
 pub mod StatusLaws
 pub mod BallotLaws
+pub mod ActLaws
 pub mod RuleLaws
 pub mod TurnLaws
 pub mod BoardLaws
@@ -9,5 +10,4 @@ pub mod LifeLaws
 pub mod EstimateLaws
 pub mod ClaimLaws
 pub mod ExampleLaws
-pub mod MoveLaws
 pub mod Rules

@@ -1,8 +1,8 @@
 ghost use Rattle.vote.specs.Examples.{Examples};
 ghost use Rattle.vote.specs.Life.{DecidesByQuorum, DecidesOnce, SignsByStage, SignsRising, EstimateOpened, EstimateAllowed, UntakenKeeps, StandsInRounds, HearsAlways, KeepsDelivered, SuspectsOnce};
-ghost use Rattle.vote.specs.Moves.{SameMove, SameTurn};
+ghost use Rattle.vote.specs.Acts.{SameMove, SameTurn};
 
-/// Claims that a turn is what `Moves`, `Leads` and `Takes` say in words of their own, for every board and all that it can have
+/// Claims that a turn is what `Acts`, `Leads` and `Takes` say in words of their own, for every board and all that it can have
 /// delivered. It does nothing when it is called.
 pub fn every_turn()
     ensures moves { SameMove }

@@ -2,7 +2,7 @@ ghost use Rattle.std.specs.Prelude.{◌≡◌, ◌≤◌};
 ghost use Rattle.delivery.specs.Limits.{limits};
 ghost use Rattle.delivery.specs.Delivered.{heard};
 ghost use Rattle.vote.specs.Rule.{open_move, may_vote, vote_move, may_count, next_estimate, onward, count_move, rule};
-ghost use Rattle.vote.specs.Moves.{Moves, OfValues};
+ghost use Rattle.vote.specs.Acts.{Acts, OfValues};
 ghost use Rattle.vote.specs.Private.{some_opened, some_with, by_round, by_position};
 
 use crate::position::{Position, Stage};
@@ -151,7 +151,7 @@ impl Position {
     #[tactic(auto, using(crate::proofs::Rules::rules_position_position_rule), unfolding(crate::specs::Rule::rule, crate::specs::Rule::move_at))]
     pub fn rule(&self, n: u8, me: u8, delivered: &Delivered) -> Move
         ensures moved { result ≡ rule limits n me self.now (heard limits delivered.now) }
-        ensures said { 1 ≤ n → OfValues (heard limits delivered.now) → Moves n me self.now (heard limits delivered.now) result }
+        ensures said { 1 ≤ n → OfValues (heard limits delivered.now) → Acts n me self.now (heard limits delivered.now) result }
     {
         let outlook = Outlook {
             n,

@@ -1,5 +1,5 @@
 -- Each claim is a law. Assumes nothing.
-use Rattle.vote.proofs.MoveLaws.{rule-said, turn-said}
+use Rattle.vote.proofs.ActLaws.{rule-said, turn-said}
 use Rattle.vote.proofs.claims.every_turn.Goals as goal
 
 pub returns-clause-moves : goal.returns-clause-moves

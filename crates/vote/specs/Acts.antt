@@ -61,21 +61,21 @@ module _ (n me : ℕ) (p : Position) (h : Store) where
     changed : v ≢ 0 → overlap n ≤ ballots_for v → Leaves v
     kept : NoneHas (overlap n) → v ≡ p.estimate → Leaves v
 
-  pub data Moves : Move → Type 0 where
+  pub data Acts : Move → Type 0 where
     -- Stage A: the coordinator of the round opens it with its own estimate; any other board passes.
-    opens-round : p.stage ≡ Open → me ≡ coordinator n r → Moves (Opens p.estimate)
-    says-nothing : p.stage ≡ Open → me ≢ coordinator n r → Moves Passes
+    opens-round : p.stage ≡ Open → me ≡ coordinator n r → Acts (Opens p.estimate)
+    says-nothing : p.stage ≡ Open → me ≢ coordinator n r → Acts Passes
     -- Stage B: the board waits until it may vote. Then its ballot is for the value of the opening that it accepts; where it
     -- accepts none, it is blank.
-    awaits-opening : p.stage ≡ Vote → (MayVote → ⊥) → Moves Waits
-    backs-opening : (v : ℕ) → p.stage ≡ Vote → MayVote → Accepts v → Moves (Ballots v)
-    votes-blank : p.stage ≡ Vote → MayVote → ((v : ℕ) → Accepts v → ⊥) → Moves (Ballots 0)
+    awaits-opening : p.stage ≡ Vote → (MayVote → ⊥) → Acts Waits
+    backs-opening : (v : ℕ) → p.stage ≡ Vote → MayVote → Accepts v → Acts (Ballots v)
+    votes-blank : p.stage ≡ Vote → MayVote → ((v : ℕ) → Accepts v → ⊥) → Acts (Ballots 0)
     -- Stage C: it waits until it may count. A value with q ballots or more it decides. Where there is none it goes on to the
     -- next round, or in round 32 is spent, with the estimate that the round leaves it.
-    awaits-ballots : p.stage ≡ Count → (MayCount → ⊥) → Moves Waits
-    decides-value : (v : ℕ) → p.stage ≡ Count → MayCount → v ≢ 0 → quorum n ≤ ballots_for v → Moves (Decides v)
-    goes-on : (v : ℕ) → p.stage ≡ Count → MayCount → NoneHas (quorum n) → r < 32 → Leaves v → Moves (Advances v)
-    is-spent : (v : ℕ) → p.stage ≡ Count → MayCount → NoneHas (quorum n) → 32 ≤ r → Leaves v → Moves (Expires v)
+    awaits-ballots : p.stage ≡ Count → (MayCount → ⊥) → Acts Waits
+    decides-value : (v : ℕ) → p.stage ≡ Count → MayCount → v ≢ 0 → quorum n ≤ ballots_for v → Acts (Decides v)
+    goes-on : (v : ℕ) → p.stage ≡ Count → MayCount → NoneHas (quorum n) → r < 32 → Leaves v → Acts (Advances v)
+    is-spent : (v : ℕ) → p.stage ≡ Count → MayCount → NoneHas (quorum n) → 32 ≤ r → Leaves v → Acts (Expires v)
 
 -- a turn that is not taken
 abbrev pub untaken : Board → Refusal → Turn
@@ -117,7 +117,7 @@ pub data Takes (n me : ℕ) (b : Board) : Turn → Type 0 where
   not-started : b.status ≡ Idle → Takes n me b (untaken b NotStarted)
   was-spent : b.status ≡ Spent → Takes n me b (untaken b Ended)
   had-decided : (d : Decision) → b.status ≡ Decided d → Takes n me b (untaken b Ended)
-  makes-move : (m : Move) (t : Turn) → b.status ≡ Voting → Moves n me b.position (heard limits b.delivered) m
+  makes-move : (m : Move) (t : Turn) → b.status ≡ Voting → Acts n me b.position (heard limits b.delivered) m
       → Leads me b m t → Takes n me b t
 
 -- every entry of a store stands for nothing, for the blank or for a value up to 65,535
@@ -128,7 +128,7 @@ OfValues h = (s i : ℕ) → h s i ≤ 65536
 abbrev pub SameMove : Type 0
 SameMove =
     (n me : ℕ) (p : Position) (h : Store) (m : Move) → 1 ≤ n → OfValues h
-    → (rule limits n me p h ≡ m) ↔ Moves n me p h m
+    → (rule limits n me p h ≡ m) ↔ Acts n me p h m
 
 -- the second: a turn comes to what the sentences have it come to, where a board that is voting is in a round from 1 to 32
 abbrev pub SameTurn : Type 0

@@ -25,7 +25,7 @@ use Rattle.vote.specs.Ballots.{opened_value, tally, value_with}
 use Rattle.vote.specs.Rule.{open_move, may_vote, vote_move, may_count, next_estimate, onward, count_move, move_at, rule}
 use Rattle.vote.specs.Boards.{hears}
 use Rattle.vote.specs.Turns.{answer_to, at_stage, position_after, status_after, said_in, hears_own, take, turn_in, turn}
-use Rattle.vote.specs.Moves.{MayVote, MayCount, NoneHas, Leaves, changed, kept, Moves, opens-round, says-nothing, awaits-opening, backs-opening, votes-blank, awaits-ballots, decides-value, goes-on, is-spent, untaken, Leads, after-waiting, after-passing, after-opening, after-voting, after-deciding, after-round, after-last, Takes, not-started, was-spent, had-decided, makes-move, OfValues, SameMove, SameTurn}
+use Rattle.vote.specs.Acts.{MayVote, MayCount, NoneHas, Leaves, changed, kept, Acts, opens-round, says-nothing, awaits-opening, backs-opening, votes-blank, awaits-ballots, decides-value, goes-on, is-spent, untaken, Leads, after-waiting, after-passing, after-opening, after-voting, after-deciding, after-round, after-last, Takes, not-started, was-spent, had-decided, makes-move, OfValues, SameMove, SameTurn}
 use Rattle.vote.specs.declared.position.Position.{Position}
 use Rattle.vote.specs.declared.position.Stage.{Stage}
 use Rattle.vote.specs.declared.position.Stage.TheVariants.{Open, Vote, Count}
@@ -42,7 +42,7 @@ module _ (n me : ℕ) (p : Position) (h : Store) (some : 1 ≤ n) (fit : OfValue
   r = p.round.0
 
   abbrev T : Move → Type 0
-  T = Moves n me p h
+  T = Acts n me p h
 
   -- the opening that is accepted, or none
   opened : (v : ℕ) → accepts_opening limits n h r v ≡ true → opened_value limits n h r ≡ v
@@ -132,8 +132,8 @@ module _ (n me : ℕ) (p : Position) (h : Store) (some : 1 ≤ n) (fit : OfValue
   left v (kept f e) = if-true _ _ _ (eq-eqb _ _ (has-none (overlap n) f)) ∙ sym e
 
   -- the rule's move is one of the sentences
-  ballot-moves : p.stage ≡ Vote → may_vote limits n p h ≡ true → T (Ballots (opened_value limits n h r))
-  ballot-moves s t = go (ℕ_discrete (opened_value limits n h r) 0)
+  ballot-acts : p.stage ≡ Vote → may_vote limits n p h ≡ true → T (Ballots (opened_value limits n h r))
+  ballot-acts s t = go (ℕ_discrete (opened_value limits n h r) 0)
     where
       go : Dec (opened_value limits n h r ≡ 0) → T (Ballots (opened_value limits n h r))
       go (yes e) =
@@ -143,13 +143,13 @@ module _ (n me : ℕ) (p : Position) (h : Store) (some : 1 ≤ n) (fit : OfValue
           (votes-blank s (may-vote t) (λ v a. opened_some limits n h r v a (sym (opened v a) ∙ e)))
       go (no z) = backs-opening (opened_value limits n h r) s (may-vote t) (opened-reads limits n h r z)
 
-  rule-moves : T (rule limits n me p h)
+  rule-acts : T (rule limits n me p h)
   unfolding rule move_at open_move vote_move count_move onward tally
-  rule-moves = go p.stage refl
+  rule-acts = go p.stage refl
     where
       go : (g : Stage) → p.stage ≡ g → T (move_at limits n me p h g)
       go Open s = if-elim T _ _ _ (λ t. opens-round s (eqb-true _ _ t)) (λ f. says-nothing s (eqb-false _ _ f))
-      go Vote s = if-elim T _ _ _ (λ t. ballot-moves s t) (λ f. awaits-opening s (λ m. true≢false (sym (votes m) ∙ f)))
+      go Vote s = if-elim T _ _ _ (λ t. ballot-acts s t) (λ f. awaits-opening s (λ m. true≢false (sym (votes m) ∙ f)))
       go Count s =
           if-elim
           T
@@ -179,24 +179,24 @@ module _ (n me : ℕ) (p : Position) (h : Store) (some : 1 ≤ n) (fit : OfValue
   unfolding rule
   at g s = ap (move_at limits n me p h) s
 
-  moves-rule : (m : Move) → T m → rule limits n me p h ≡ m
+  acts-rule : (m : Move) → T m → rule limits n me p h ≡ m
   unfolding move_at open_move vote_move count_move onward tally
-  moves-rule _ (opens-round s e) = at Open s ∙ if-true _ _ _ (eq-eqb _ _ e)
-  moves-rule _ (says-nothing s f) = at Open s ∙ if-false _ _ _ (ne_eqb _ _ f)
-  moves-rule _ (awaits-opening s f) = at Vote s ∙ if-false _ _ _ (fails _ (λ t. f (may-vote t)))
-  moves-rule _ (backs-opening v s m a) = at Vote s ∙ if-true _ _ _ (votes m) ∙ ap Ballots (opened v a)
-  moves-rule _ (votes-blank s m f) = at Vote s ∙ if-true _ _ _ (votes m) ∙ ap Ballots (unopened f)
-  moves-rule _ (awaits-ballots s f) = at Count s ∙ if-false _ _ _ (fails _ (λ t. f (may-count t)))
-  moves-rule _ (decides-value v s m z l) =
+  acts-rule _ (opens-round s e) = at Open s ∙ if-true _ _ _ (eq-eqb _ _ e)
+  acts-rule _ (says-nothing s f) = at Open s ∙ if-false _ _ _ (ne_eqb _ _ f)
+  acts-rule _ (awaits-opening s f) = at Vote s ∙ if-false _ _ _ (fails _ (λ t. f (may-vote t)))
+  acts-rule _ (backs-opening v s m a) = at Vote s ∙ if-true _ _ _ (votes m) ∙ ap Ballots (opened v a)
+  acts-rule _ (votes-blank s m f) = at Vote s ∙ if-true _ _ _ (votes m) ∙ ap Ballots (unopened f)
+  acts-rule _ (awaits-ballots s f) = at Count s ∙ if-false _ _ _ (fails _ (λ t. f (may-count t)))
+  acts-rule _ (decides-value v s m z l) =
       let e : value_with limits n h r (quorum n) ≡ v = found (quorum n) v q-some z l in
       at Count s ∙ if-true _ _ _ (counts m) ∙ if-false _ _ _ (ne_eqb _ _ (λ o. z (sym e ∙ o))) ∙ ap Decides e
-  moves-rule _ (goes-on v s m f l x) =
+  acts-rule _ (goes-on v s m f l x) =
       at Count s
       ∙ if-true _ _ _ (counts m)
       ∙ if-true _ _ _ (eq-eqb _ _ (has-none (quorum n) f))
       ∙ if-true _ _ _ (lt-ltb _ _ l)
       ∙ ap Advances (left v x)
-  moves-rule _ (is-spent v s m f l x) =
+  acts-rule _ (is-spent v s m f l x) =
       at Count s
       ∙ if-true _ _ _ (counts m)
       ∙ if-true _ _ _ (eq-eqb _ _ (has-none (quorum n) f))
@@ -216,7 +216,7 @@ module _ (n me : ℕ) (b : Board) (voting : b.status ≡ Voting) (low : 1 ≤ b.
       (ap (λ (t : Status). untaken (record { position = b.position; delivered = b.delivered; status = t }) Waiting) (sym voting))
       after-waiting
 
-  leads : (m : Move) → Moves n me b.position (heard limits b.delivered) m → Leads me b m (take limits me b m)
+  leads : (m : Move) → Acts n me b.position (heard limits b.delivered) m → Leads me b m (take limits me b m)
   unfolding answer_to at_stage position_after status_after said_in hears_own hears
   leads _ (awaits-opening s f) = waits
   leads _ (awaits-ballots s f) = waits
@@ -239,8 +239,8 @@ module _ (n me : ℕ) (b : Board) (voting : b.status ≡ Voting) (low : 1 ≤ b.
 -- the claims
 pub rule-said : SameMove
 rule-said n me p h m some fit = (
-  λ (e : rule limits n me p h ≡ m). subst (Moves n me p h) e (rule-moves n me p h some fit),
-  moves-rule n me p h some fit m,
+  λ (e : rule limits n me p h ≡ m). subst (Acts n me p h) e (rule-acts n me p h some fit),
+  acts-rule n me p h some fit m,
 )
 
 pub turn-said : SameTurn
@@ -251,7 +251,7 @@ turn-said n me b some fit round = go b.status refl
     go Idle e = not-started e
     go Voting e =
         let m = rule limits n me b.position (heard limits b.delivered) in
-        let x = rule-moves n me b.position (heard limits b.delivered) some fit in
+        let x = rule-acts n me b.position (heard limits b.delivered) some fit in
         makes-move m (take limits me b m) e x (leads n me b e (round e).0 (round e).1 m x)
     go Spent e = was-spent e
     go (Decided d) e = had-decided d e
