@@ -9,7 +9,7 @@ use Rattle.delivery.proofs.DeliveredLaws.{deliver-same}
 use Rattle.vote.specs.Ballots.{tally}
 use Rattle.vote.specs.Boards.{fresh_board, hears, deliver_to}
 use Rattle.vote.specs.Calls.{Call, board_after}
-use Rattle.vote.specs.Life.{DecidesByQuorum, DecidesOnce, SignsByStage, SignsRising, EstimateOpened, EstimateAllowed, UntakenKeeps, StandsInRounds, HearsAlways, KeepsDelivered, SuspectsOnce}
+use Rattle.vote.specs.Life.{DecidesByQuorum, DecidesOnce, SignsByStage, SignsRising, EstimateOpened, HoldsValues, EstimateAllowed, UntakenKeeps, StandsInRounds, HearsAlways, KeepsDelivered, SuspectsOnce}
 use Rattle.vote.proofs.BoardLaws.{suspect-twice, trust-twice}
 use Rattle.vote.proofs.EstimateLaws.{fresh-allowed}
 use Rattle.vote.proofs.LifeLaws.{after-final, after-grows, after-proper, fresh-rise, fresh-won}
@@ -34,6 +34,10 @@ signs-rising n me cs = fresh-rise limits n me (omega arith) cs
 
 pub estimate-opened : EstimateOpened
 estimate-opened n me b = turn-estimate limits n me b
+
+pub holds-values : HoldsValues
+holds-values n me cs some fit =
+    let a = fresh-allowed limits n me some (omega arith) cs fit in (a.plain, a.value)
 
 pub estimate-allowed : EstimateAllowed
 estimate-allowed n me cs some fit = (fresh-allowed limits n me some (omega arith) cs fit).permitted

@@ -2,12 +2,13 @@
 -- proofs/ExampleLaws.
 use Rattle.std.specs.Prelude.{ℕ, ◌≡◌, List, [], ◌∷◌, ◌++◌, Option, Some}
 use Rattle.delivery.specs.Limits.{limits}
-use Rattle.delivery.specs.Delivered.{heard}
+use Rattle.delivery.specs.Delivered.{nothing_delivered, heard}
 use Rattle.vote.specs.Boards.{decision_of}
 use Rattle.vote.specs.Turns.{turn_answer, turn}
-use Rattle.vote.specs.Calls.{Call, proposal, own_turn, delivery, suspicion, announcement, board_after}
+use Rattle.vote.specs.Calls.{Call, proposal, own_turn, delivery, announcement, suspicion, restored-trust, board_after}
 use Rattle.vote.specs.declared.statement.Statement.{Statement}
-use Rattle.vote.specs.declared.board.Status.TheVariants.{Decided}
+use Rattle.vote.specs.declared.board.Status.TheVariants.{Idle, Decided}
+use Rattle.vote.specs.declared.position.Stage.TheVariants.{Open}
 
 -- the turn of board `me` of n after some calls to a fresh one: its answer, as the number in the table, and what is signed
 abbrev pub answer : ℕ → ℕ → List Call → ℕ
@@ -51,6 +52,17 @@ incident =
     ∷ []
 
 pub record Examples : Type 0 where
+  -- a fresh board; one whose first proposal counts, and one to which the blank was proposed; and whom one suspects, as a mask
+  pub fresh : board_after 1 1 []
+      ≡ record {
+        position = record { round = record { 0 = 0 }; estimate = 0; stage = Open; suspected = 0 };
+        delivered = nothing_delivered limits;
+        status = Idle;
+      }
+  pub proposes : (board_after 1 1 (proposal 700 ∷ proposal 701 ∷ [])).position
+      ≡ record { round = record { 0 = 1 }; estimate = 700; stage = Open; suspected = 0 }
+  pub blank : (board_after 1 1 (proposal 0 ∷ [])).status ≡ Idle
+  pub suspects : (board_after 3 1 (suspicion 1 ∷ suspicion 2 ∷ suspicion 3 ∷ restored-trust 1 ∷ [])).position.suspected ≡ 6
   -- each number that a turn is answered with: taken, not started, ended, waiting
   pub taken : answer 1 1 (proposal 700 ∷ []) ≡ 0
   pub not_started : answer 1 1 [] ≡ 15

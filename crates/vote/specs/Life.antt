@@ -10,6 +10,7 @@ use Rattle.delivery.specs.declared.round.Phase.TheVariants.{Opening, Ballot}
 use Rattle.vote.specs.Ballots.{opened_value, tally}
 use Rattle.vote.specs.Boards.{fresh_board, is_started, deliver_to, suspect, trust}
 use Rattle.vote.specs.Turns.{statement_of, turn}
+use Rattle.vote.specs.Acts.{OfValues}
 use Rattle.vote.specs.Calls.{Call, proposal, own_turn, delivery, announcement, suspicion, restored-trust, after, board_after, statements}
 use Rattle.vote.specs.declared.position.Stage.TheVariants.{Open, Vote, Count}
 use Rattle.vote.specs.declared.statement.Statement.{Statement}
@@ -69,6 +70,12 @@ Fits (restored-trust k) = Unit {0}
 pub data EachFits : List Call → Type 0 where
   none_left : EachFits []
   fits-first : (c : Call) (cs : List Call) → Fits c → EachFits cs → EachFits (c ∷ cs)
+
+-- After such calls the board holds values alone: so the second text of a turn holds of each of its turns.
+abbrev pub HoldsValues : Type 0
+HoldsValues =
+    (n me : ℕ) (cs : List Call) → 1 ≤ n → EachFits cs → let b = board_after n me cs in
+    OfValues (heard limits b.delivered) × (b.position.estimate ≤ values)
 
 -- The estimate of a board that has started is allowed in its round, by what the board itself has delivered.
 abbrev pub EstimateAllowed : Type 0

@@ -1,5 +1,5 @@
 ghost use Rattle.vote.specs.Examples.{Examples};
-ghost use Rattle.vote.specs.Life.{DecidesByQuorum, DecidesOnce, SignsByStage, SignsRising, EstimateOpened, EstimateAllowed, UntakenKeeps, StandsInRounds, HearsAlways, KeepsDelivered, SuspectsOnce};
+ghost use Rattle.vote.specs.Life.{DecidesByQuorum, DecidesOnce, SignsByStage, SignsRising, EstimateOpened, HoldsValues, EstimateAllowed, UntakenKeeps, StandsInRounds, HearsAlways, KeepsDelivered, SuspectsOnce};
 ghost use Rattle.vote.specs.Acts.{SameMove, SameTurn};
 
 /// Claims that a turn is what `Acts`, `Leads` and `Takes` say in words of their own, for every board and all that it can have
@@ -17,6 +17,7 @@ pub fn every_life()
     ensures signs { SignsByStage }
     ensures rising { SignsRising }
     ensures opened { EstimateOpened }
+    ensures values { HoldsValues }
     ensures allowed { EstimateAllowed }
     ensures untaken { UntakenKeeps }
     ensures stands { StandsInRounds }

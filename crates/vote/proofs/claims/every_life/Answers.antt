@@ -1,5 +1,5 @@
 -- Each claim is a law. Assumes nothing.
-use Rattle.vote.proofs.ClaimLaws.{decides-by-quorum, decides-once, signs-by-stage, signs-rising, estimate-opened, estimate-allowed, untaken-keeps, stands-in-rounds, hears-always, keeps-delivered, suspects-once}
+use Rattle.vote.proofs.ClaimLaws.{decides-by-quorum, decides-once, signs-by-stage, signs-rising, estimate-opened, holds-values, estimate-allowed, untaken-keeps, stands-in-rounds, hears-always, keeps-delivered, suspects-once}
 use Rattle.vote.proofs.claims.every_life.Goals as goal
 
 pub returns-clause-backed : goal.returns-clause-backed
@@ -16,6 +16,9 @@ returns-clause-rising c = signs-rising
 
 pub returns-clause-opened : goal.returns-clause-opened
 returns-clause-opened c = estimate-opened
+
+pub returns-clause-values : goal.returns-clause-values
+returns-clause-values c = holds-values
 
 pub returns-clause-allowed : goal.returns-clause-allowed
 returns-clause-allowed c = estimate-allowed
