@@ -35,7 +35,8 @@ use Rattle.vote.specs.declared.statement.Statement.{Statement}
 use Rattle.vote.specs.declared.turn.Turn.{Turn}
 use Rattle.vote.proofs.BoardLaws.{Convinced, reads-convinced, announce-decides, propose-starts, propose-position, hears-delivers, deliver-hears, suspect-adds, trust-drops}
 use Rattle.vote.proofs.LifeLaws.{called-proposal, called-turn, called-delivery, called-suspicion, called-trust, called-announcement}
-use Rattle.vote.proofs.SigningLaws.{Signs, Speech, silent, speaks, turn-speech}
+use Rattle.vote.specs.Life.{Signs}
+use Rattle.vote.proofs.SigningLaws.{Speech, silent, speaks, turn-speech}
 use Rattle.std.proofs.lemmas.Option.{none-some, same_Some}
 use Rattle.vote.proofs.TurnLaws.{turn-voting}
 use Rattle.bench.specs.Events.{proposing, turning, delivering, announcing, suspecting, trusting, signing}

@@ -15,7 +15,7 @@ use Rattle.vote.specs.Calls.{Call, own_turn, delivery, called}
 use Rattle.vote.specs.declared.board.Board.{Board}
 use Rattle.vote.specs.declared.statement.Statement.{Statement}
 use Rattle.std.specs.Prelude.{None, Some}
-use Rattle.vote.proofs.SigningLaws.{Signs}
+use Rattle.vote.specs.Life.{Signs}
 use Rattle.vote.proofs.LifeLaws.{called-turn}
 use Rattle.bench.specs.Benches.{is_sound, board_at, signer_at, heard_by, signed_by, holders}
 use Rattle.bench.specs.Effects.{with_board_at, with_signature, with_owed, after_saying, after_turn}

@@ -26,7 +26,8 @@ use Rattle.vote.specs.Boards.{decision_of}
 use Rattle.vote.specs.declared.board.Decision.{Decision}
 use Rattle.vote.proofs.StatusLaws.{decided-one}
 use Rattle.vote.proofs.ProperLaws.{voting-round}
-use Rattle.vote.proofs.SigningLaws.{Signs, signs-opening, signs-ballot, due, signs-due, turn-signs}
+use Rattle.vote.specs.Life.{Signs, signs-opening, signs-ballot}
+use Rattle.vote.proofs.SigningLaws.{due, signs-due, turn-signs}
 use Rattle.bench.specs.Benches.{is_sound, board_at, signer_at, heard_by, signed_by}
 use Rattle.bench.specs.Setups.{Setup, setup, bench_of, fresh_bench, fresh_of}
 use Rattle.bench.specs.Answers.{answer_number, is_accepted}

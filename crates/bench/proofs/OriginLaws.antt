@@ -23,7 +23,8 @@ use Rattle.vote.specs.declared.statement.Statement.{Statement}
 use Rattle.vote.proofs.StatusLaws.{started-voting}
 use Rattle.vote.proofs.BoardLaws.{starting-estimate}
 use Rattle.vote.proofs.TurnLaws.{turn-estimate}
-use Rattle.vote.proofs.SigningLaws.{Signs, signs-opening, signs-ballot, turn-signs}
+use Rattle.vote.specs.Life.{Signs, signs-opening, signs-ballot}
+use Rattle.vote.proofs.SigningLaws.{turn-signs}
 use Rattle.vote.proofs.ProperLaws.{voting-round}
 use Rattle.bench.specs.Events.{proposing, turning, delivering, announcing, suspecting, trusting, signing}
 use Rattle.bench.specs.Benches.{is_sound, board_at, heard_by, signed_by}

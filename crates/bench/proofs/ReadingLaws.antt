@@ -21,7 +21,7 @@ use Rattle.vote.specs.Calls.{own_turn, delivery, called}
 use Rattle.vote.specs.declared.board.Board.{Board}
 use Rattle.vote.specs.declared.statement.Statement.{Statement}
 use Rattle.vote.proofs.BoardLaws.{hears-delivers, deliver-hears}
-use Rattle.vote.proofs.SigningLaws.{Signs, signs-opening, signs-ballot}
+use Rattle.vote.specs.Life.{Signs, signs-opening, signs-ballot}
 use Rattle.vote.proofs.LifeLaws.{called-delivery}
 use Rattle.bench.specs.Benches.{board_at, signer_at, heard_by, signed_by}
 use Rattle.bench.specs.Setups.{Setup}

@@ -24,10 +24,7 @@ pub identifier-at : (L : Limits) (p : Phase) (r : ℕ) → is_round L r ≡ true
 unfolding identifier_of
 identifier-at L p r h = if-true (is_round L r) (phase_of p r) 0 h
 
-pub identifier-none : (L : Limits) (p : Phase) (r : ℕ) → is_round L r ≡ false → identifier_of L p r ≡ 0
-unfolding identifier_of
-identifier-none L p r h = if-false (is_round L r) (phase_of p r) 0 h
-
+-- as numbers
 pub identifier-opening : (L : Limits) (r : ℕ) → is_round L r ≡ true → identifier_of L Opening r ≡ 2 * r - 1
 unfolding phase_of
 identifier-opening L r h = identifier-at L Opening r h
@@ -35,6 +32,10 @@ identifier-opening L r h = identifier-at L Opening r h
 pub identifier-ballot : (L : Limits) (r : ℕ) → is_round L r ≡ true → identifier_of L Ballot r ≡ 2 * r
 unfolding phase_of
 identifier-ballot L r h = identifier-at L Ballot r h
+
+pub identifier-none : (L : Limits) (p : Phase) (r : ℕ) → is_round L r ≡ false → identifier_of L p r ≡ 0
+unfolding identifier_of
+identifier-none L p r h = if-false (is_round L r) (phase_of p r) 0 h
 
 -- two statements of rounds that share an identifier are of one round and one phase
 phase-apart : (p p' : Phase) (r r' : ℕ) → 1 ≤ r → 1 ≤ r' → phase_of p r ≡ phase_of p' r' → (p ≡ p') × (r ≡ r')

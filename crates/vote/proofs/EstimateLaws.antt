@@ -23,6 +23,7 @@ use Rattle.vote.specs.Ballots.{tally}
 use Rattle.vote.specs.Boards.{fresh_position, fresh_board, is_started, hears}
 use Rattle.vote.specs.Rule.{carried}
 use Rattle.vote.specs.Calls.{Call, proposal, own_turn, delivery, suspicion, restored-trust, announcement, called, after}
+use Rattle.vote.specs.Life.{Fits, EachFits, none_left, fits-first}
 use Rattle.vote.specs.declared.position.Position.{Position}
 use Rattle.vote.specs.declared.position.Stage.{Stage}
 use Rattle.vote.specs.declared.position.Stage.TheVariants.{Vote, Count}
@@ -84,15 +85,6 @@ pub record Admitted (L : Limits) (n : ℕ) (b : Board) : Type 0 where
   pub value : b.position.estimate ≤ values
   pub permitted : is_started b.status ≡ true
       → allowed L n (heard L b.delivered) b.position.round.0 b.position.estimate ≡ true
-
--- a call brings no more than the highest value
-abbrev pub Fits : Call → Type 0
-Fits (proposal v) = v ≤ values
-Fits own_turn = Unit {0}
-Fits (delivery s) = s.value ≤ values
-Fits (suspicion k) = Unit {0}
-Fits (restored-trust k) = Unit {0}
-Fits (announcement r v) = Unit {0}
 
 -- a fresh board is one
 pub fresh-admitted : (L : Limits) (n : ℕ) → Admitted L n (fresh_board L)
@@ -198,10 +190,6 @@ module _ (L : Limits) (n me : ℕ) (b : Board) (some : 1 ≤ n) (p : Proper L b)
       (announce-cases L n b r v)
 
 -- so does every list of calls that fit
-pub data EachFits : List Call → Type 0 where
-  none_left : EachFits []
-  fits-first : (c : Call) (cs : List Call) → Fits c → EachFits cs → EachFits (c ∷ cs)
-
 pub after-admitted : (L : Limits) (n me : ℕ) → 1 ≤ n → 1 ≤ L.rounds → (b : Board) → Proper L b → Admitted L n b
     → (cs : List Call) → EachFits cs → Admitted L n (after L n me b cs)
 unfolding after

@@ -1,5 +1,6 @@
 pub mod StatusLaws
 pub mod BallotLaws
+pub mod ActLaws
 pub mod RuleLaws
 pub mod TurnLaws
 pub mod BoardLaws
@@ -7,6 +8,6 @@ pub mod SigningLaws
 pub mod ProperLaws
 pub mod LifeLaws
 pub mod EstimateLaws
+pub mod ClaimLaws
 pub mod ExampleLaws
-pub mod SentenceLaws
 pub mod Rules

@@ -16,6 +16,7 @@ use Rattle.vote.specs.Boards.{fresh_board, is_started, is_decided, is_ended, dec
 use Rattle.vote.specs.Turns.{turn}
 use Rattle.vote.specs.Announcements.{announce}
 use Rattle.vote.specs.Calls.{Call, proposal, own_turn, delivery, suspicion, restored-trust, announcement, called, after, signed_in, put, statements}
+use Rattle.vote.specs.Life.{Rising, no_more, and_then}
 use Rattle.vote.specs.declared.statement.Statement.{Statement}
 use Rattle.vote.specs.declared.board.Board.{Board}
 use Rattle.vote.specs.declared.board.Decision.{Decision}
@@ -189,11 +190,6 @@ module _ (L : Limits) (n me : ℕ) where
   pub fresh-won : (cs : List Call) (d : Decision) → (after L n me (fresh_board L) cs).status ≡ Decided d
       → Won L n (heard L (after L n me (fresh_board L) cs).delivered) d.round.0 d.value
   fresh-won cs = (after-grounded (fresh_board L) (fresh-grounded L n) cs).won
-
--- identifiers that rise from m on, so that none comes twice
-pub data Rising : ℕ → List Statement → Type 0 where
-  no_more : (m : ℕ) → Rising m []
-  and_then : (m : ℕ) (s : Statement) (ss : List Statement) → m ≤ s.id.0 → Rising (suc s.id.0) ss → Rising m (s ∷ ss)
 
 rising-from : (m k : ℕ) (ss : List Statement) → m ≤ k → Rising k ss → Rising m ss
 rising-from m k [] l (no_more _) = no_more m

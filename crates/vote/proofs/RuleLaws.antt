@@ -228,52 +228,52 @@ next-estimate L n p h = go (ℕ_discrete (carried L n p h) 0)
         taken (rw (estimate-taken L n p h z) b)
 
 -- what is known of a board that makes a move
-pub data Acts (L : Limits) (n me : ℕ) (p : Position) (h : Store) : Move → Type 0 where
-  awaits-opening : p.stage ≡ Vote → may_vote L n p h ≡ false → Acts L n me p h Waits
-  awaits-ballots : p.stage ≡ Count → may_count L n p h ≡ false → Acts L n me p h Waits
-  passes : p.stage ≡ Open → (me ≡ coordinator n p.round.0 → ⊥) → Acts L n me p h Passes
-  opens : (v : ℕ) → p.stage ≡ Open → me ≡ coordinator n p.round.0 → v ≡ p.estimate → Acts L n me p h (Opens v)
-  ballots : (v : ℕ) → p.stage ≡ Vote → may_vote L n p h ≡ true → v ≡ opened_value L n h p.round.0 → Acts L n me p h (Ballots v)
-  decides : (v : ℕ) → p.stage ≡ Count → MayCount L n p h → Won L n h p.round.0 v → Acts L n me p h (Decides v)
-  advances : (v : ℕ) → p.stage ≡ Count → MayCount L n p h → chosen L n p h ≡ 0 → p.round.0 < L.rounds → Next L n p h v → Acts L n me p h (Advances v)
-  expires : (v : ℕ) → p.stage ≡ Count → MayCount L n p h → chosen L n p h ≡ 0 → L.rounds ≤ p.round.0 → Next L n p h v → Acts L n me p h (Expires v)
+pub data Makes (L : Limits) (n me : ℕ) (p : Position) (h : Store) : Move → Type 0 where
+  awaits-opening : p.stage ≡ Vote → may_vote L n p h ≡ false → Makes L n me p h Waits
+  awaits-ballots : p.stage ≡ Count → may_count L n p h ≡ false → Makes L n me p h Waits
+  passes : p.stage ≡ Open → (me ≡ coordinator n p.round.0 → ⊥) → Makes L n me p h Passes
+  opens : (v : ℕ) → p.stage ≡ Open → me ≡ coordinator n p.round.0 → v ≡ p.estimate → Makes L n me p h (Opens v)
+  ballots : (v : ℕ) → p.stage ≡ Vote → may_vote L n p h ≡ true → v ≡ opened_value L n h p.round.0 → Makes L n me p h (Ballots v)
+  decides : (v : ℕ) → p.stage ≡ Count → MayCount L n p h → Won L n h p.round.0 v → Makes L n me p h (Decides v)
+  advances : (v : ℕ) → p.stage ≡ Count → MayCount L n p h → chosen L n p h ≡ 0 → p.round.0 < L.rounds → Next L n p h v → Makes L n me p h (Advances v)
+  expires : (v : ℕ) → p.stage ≡ Count → MayCount L n p h → chosen L n p h ≡ 0 → L.rounds ≤ p.round.0 → Next L n p h v → Makes L n me p h (Expires v)
 
 module _ (L : Limits) (n me : ℕ) (p : Position) (h : Store) where
-  abbrev Act : Move → Type 0
-  Act = Acts L n me p h
+  abbrev Make : Move → Type 0
+  Make = Makes L n me p h
 
-  open-acts : p.stage ≡ Open → Act (open_move n me p)
+  open-acts : p.stage ≡ Open → Make (open_move n me p)
   open-acts s = go (ℕ_discrete me (coordinator n p.round.0))
     where
-      go : Dec (me ≡ coordinator n p.round.0) → Act (open_move n me p)
-      go (yes e) = subst⁻¹ Act (open-coordinator n me p e) (opens p.estimate s e refl)
-      go (no f) = subst⁻¹ Act (open-other n me p f) (passes s f)
+      go : Dec (me ≡ coordinator n p.round.0) → Make (open_move n me p)
+      go (yes e) = subst⁻¹ Make (open-coordinator n me p e) (opens p.estimate s e refl)
+      go (no f) = subst⁻¹ Make (open-other n me p f) (passes s f)
 
-  vote-acts : p.stage ≡ Vote → Act (vote_move L n p h)
+  vote-acts : p.stage ≡ Vote → Make (vote_move L n p h)
   vote-acts s = go (decided (may_vote L n p h))
     where
-      go : (may_vote L n p h ≡ true) ⊎ (may_vote L n p h ≡ false) → Act (vote_move L n p h)
-      go (inl t) = subst⁻¹ Act (vote-ballots L n p h t) (ballots (opened_value L n h p.round.0) s t refl)
-      go (inr t) = subst⁻¹ Act (vote-waits L n p h t) (awaits-opening s t)
+      go : (may_vote L n p h ≡ true) ⊎ (may_vote L n p h ≡ false) → Make (vote_move L n p h)
+      go (inl t) = subst⁻¹ Make (vote-ballots L n p h t) (ballots (opened_value L n h p.round.0) s t refl)
+      go (inr t) = subst⁻¹ Make (vote-waits L n p h t) (awaits-opening s t)
 
-  onward-acts : p.stage ≡ Count → MayCount L n p h → chosen L n p h ≡ 0 → Act (onward L n p h)
+  onward-acts : p.stage ≡ Count → MayCount L n p h → chosen L n p h ≡ 0 → Make (onward L n p h)
   onward-acts s m z = go (dec_lt p.round.0 L.rounds)
     where
-      go : Dec (p.round.0 < L.rounds) → Act (onward L n p h)
-      go (yes l) = subst⁻¹ Act (onward-advances L n p h l) (advances (next_estimate L n p h) s m z l (next-estimate L n p h))
+      go : Dec (p.round.0 < L.rounds) → Make (onward L n p h)
+      go (yes l) = subst⁻¹ Make (onward-advances L n p h l) (advances (next_estimate L n p h) s m z l (next-estimate L n p h))
       go (no g) =
           let l : L.rounds ≤ p.round.0 = omega arith in
-          subst⁻¹ Act (onward-expires L n p h l) (expires (next_estimate L n p h) s m z l (next-estimate L n p h))
+          subst⁻¹ Make (onward-expires L n p h l) (expires (next_estimate L n p h) s m z l (next-estimate L n p h))
 
-  count-acts : p.stage ≡ Count → Act (count_move L n p h)
+  count-acts : p.stage ≡ Count → Make (count_move L n p h)
   count-acts s = go (decided (may_count L n p h)) (ℕ_discrete (chosen L n p h) 0)
     where
-      go : (may_count L n p h ≡ true) ⊎ (may_count L n p h ≡ false) → Dec (chosen L n p h ≡ 0) → Act (count_move L n p h)
-      go (inr t) d = subst⁻¹ Act (count-waits L n p h t) (awaits-ballots s t)
-      go (inl t) (yes z) = subst⁻¹ Act (count-onward L n p h t z) (onward-acts s (count-reads L n p h t) z)
+      go : (may_count L n p h ≡ true) ⊎ (may_count L n p h ≡ false) → Dec (chosen L n p h ≡ 0) → Make (count_move L n p h)
+      go (inr t) d = subst⁻¹ Make (count-waits L n p h t) (awaits-ballots s t)
+      go (inl t) (yes z) = subst⁻¹ Make (count-onward L n p h t z) (onward-acts s (count-reads L n p h t) z)
       go (inl t) (no z) =
           subst⁻¹
-          Act
+          Make
           (count-decides L n p h t z)
           (decides
           (chosen L n p h)
@@ -282,19 +282,19 @@ module _ (L : Limits) (n me : ℕ) (p : Position) (h : Store) where
           (backed-won L n h p.round.0 (chosen L n p h) (with-reads L n h p.round.0 (quorum n) z)))
 
   -- the rule's move is always one of these
-  pub rule-acts : Acts L n me p h (rule L n me p h)
+  pub rule-acts : Makes L n me p h (rule L n me p h)
   rule-acts = go p.stage refl
     where
-      go : (s : Stage) → p.stage ≡ s → Act (rule L n me p h)
-      go Open e = subst⁻¹ Act (rule-open L n me p h e) (open-acts e)
-      go Vote e = subst⁻¹ Act (rule-vote L n me p h e) (vote-acts e)
-      go Count e = subst⁻¹ Act (rule-count L n me p h e) (count-acts e)
+      go : (s : Stage) → p.stage ≡ s → Make (rule L n me p h)
+      go Open e = subst⁻¹ Make (rule-open L n me p h e) (open-acts e)
+      go Vote e = subst⁻¹ Make (rule-vote L n me p h e) (vote-acts e)
+      go Count e = subst⁻¹ Make (rule-count L n me p h e) (count-acts e)
 
   -- a board that decides a value has q or more accepted ballots of its round with it
   pub decides-won : (v : ℕ) → rule L n me p h ≡ Decides v → Won L n h p.round.0 v
-  decides-won v e = go (subst Act e rule-acts)
+  decides-won v e = go (subst Make e rule-acts)
     where
-      go : Act (Decides v) → Won L n h p.round.0 v
+      go : Make (Decides v) → Won L n h p.round.0 v
       go (decides _ s m w) = w
 
   -- an estimate that changes was an accepted opening's value

@@ -1,9 +1,9 @@
 -- For each function, the laws that its proof goes by.
+use Rattle.vote.proofs.ActLaws.{rule-said}
 use Rattle.delivery.proofs.TestLaws.{and-no-left, and-no-right, and_in, and_right, neg-in, neg-no, or_left, or_no, or_right, same_test}
 use Rattle.signer.proofs.ConditionalLaws.{if-false, if-true}
 use Rattle.vote.proofs.BallotLaws.{opened-reads, opened-within, reads-with, tally-opened, with_none}
 use Rattle.vote.proofs.RuleLaws.{count-enough_in, count-few_in, sent-votes, unsent-votes}
-use Rattle.vote.proofs.SentenceLaws.{rule-said, rule-leads}
 
 pub ruleset rules_rule_outlook_value_with = (opened-reads, opened-within, tally-opened, reads-with, with_none)
 
@@ -17,5 +17,4 @@ pub ruleset rules_rule_outlook_may_count = (count-few_in, count-enough_in)
 
 pub ruleset rules_rule_outlook_may_vote = (sent-votes, unsent-votes)
 
--- what src/claims claims
-pub ruleset turn_claims = (rule-said, rule-leads)
+pub ruleset rules_position_position_rule = (rule-said)

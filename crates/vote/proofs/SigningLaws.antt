@@ -8,13 +8,12 @@ use Rattle.std.specs.Prelude.{None, Some}
 use Rattle.std.proofs.lemmas.Option.{none-some, same_Some}
 use Rattle.signer.proofs.FromOneLaws.{within_in}
 use Rattle.delivery.specs.Limits.{Limits}
-use Rattle.delivery.specs.Rounds.{is_round, coordinator, identifier_of}
-use Rattle.delivery.specs.Delivered.{heard}
+use Rattle.delivery.specs.Rounds.{is_round, identifier_of}
 use Rattle.delivery.specs.declared.round.Phase.TheVariants.{Opening, Ballot}
 use Rattle.delivery.proofs.RoundLaws.{opening-ballot, ballot-opening}
-use Rattle.vote.specs.Ballots.{opened_value}
 use Rattle.vote.specs.Boards.{is_started, hears}
-use Rattle.vote.specs.Turns.{statement_of, turn}
+use Rattle.vote.specs.Turns.{turn}
+use Rattle.vote.specs.Life.{Signs, signs-opening, signs-ballot}
 use Rattle.vote.specs.declared.position.Position.{Position}
 use Rattle.vote.specs.declared.position.Stage.{Stage}
 use Rattle.vote.specs.declared.position.Stage.TheVariants.{Open, Vote, Count}
@@ -24,15 +23,6 @@ use Rattle.vote.specs.declared.board.Status.{Status}
 use Rattle.vote.specs.declared.board.Status.TheVariants.{Idle, Voting, Spent, Decided}
 use Rattle.vote.specs.declared.turn.Turn.{Turn}
 use Rattle.vote.proofs.TurnLaws.{done, Course, not_taken, passed, opened, balloted, decided, advanced, expired, turn-course}
-
--- What board `me` signs in its turn: the opening of its round with its estimate, as its coordinator, at stage A; the
--- round's ballot at stage B.
-module _ (L : Limits) (n me : ℕ) (b : Board) where
-  pub data Signs (s : Statement) : Type 0 where
-    signs-opening : b.status ≡ Voting → b.position.stage ≡ Open → me ≡ coordinator n b.position.round.0
-        → statement_of L me Opening b.position.round.0 b.position.estimate ≡ s → Signs s
-    signs-ballot : b.status ≡ Voting → b.position.stage ≡ Vote
-        → statement_of L me Ballot b.position.round.0 (opened_value L n (heard L b.delivered) b.position.round.0) ≡ s → Signs s
 
 -- the lowest identifier under which a board may still sign: at A its round's opening, at B its ballot, at C whatever
 -- follows that

@@ -30,7 +30,7 @@ use Rattle.vote.specs.declared.turn.Refusal.{Refusal}
 use Rattle.vote.specs.declared.turn.Refusal.TheVariants.{NotStarted, Ended, Waiting}
 use Rattle.vote.specs.declared.turn.Turn.{Turn}
 use Rattle.vote.proofs.StatusLaws.{ended-spent, ended-decided}
-use Rattle.vote.proofs.RuleLaws.{MayCount, Next, Acts, passes, opens, ballots, decides, advances, expires, rule-acts, next-origin}
+use Rattle.vote.proofs.RuleLaws.{MayCount, Next, Makes, passes, opens, ballots, decides, advances, expires, rule-acts, next-origin}
 
 -- a board with another round, estimate, stage, store and status; whom it suspects is the same
 abbrev pub placed : Board → Round → ℕ → Stage → Delivered → Status → Board
@@ -154,7 +154,7 @@ module _ (L : Limits) (n me : ℕ) (b : Board) where
         → chosen L n b.position store ≡ 0 → L.rounds ≤ round.0 → Next L n b.position store v
         → t ≡ done (placed b round v Count b.delivered Spent) → Course t
 
-  voting-course : (m : Move) → b.status ≡ Voting → Acts L n me b.position store m → Course (take L me b m)
+  voting-course : (m : Move) → b.status ≡ Voting → Makes L n me b.position store m → Course (take L me b m)
   voting-course Waits e a = not_taken Waiting (take-waits L me b e)
   voting-course Passes e (passes s f) = passed e s f (take-passes L me b)
   voting-course (Opens v) e (opens _ s c i) = opened e s c (ap (λ (w : ℕ). take L me b (Opens w)) i ∙ take-opens L me b b.position.estimate)

@@ -1,5 +1,5 @@
 -- Document 01, "A board's turns", stages B and C: what the statements of a round that a board accepts come to.
-use Rattle.std.specs.Prelude.{ℕ, zero, suc, Bool, eqb, leb, Option, None, Some}
+use Rattle.std.specs.Prelude.{ℕ, zero, suc, Bool, eqb, leb}
 use Rattle.std.specs.Prelude.{if◌then◌else◌}
 use Rattle.signer.specs.Log.{value_of}
 use Rattle.delivery.specs.Tests.{◌and◌, neg}
@@ -19,10 +19,6 @@ module _ (L : Limits) (n : ℕ) (h : Store) (r : ℕ) where
   unfoldable pub opened_value : ℕ
   opened_value = if accepts_opening L n h r (value_of (opening_entry L n h r)) then value_of (opening_entry L n h r) else 0
 
-  -- the same as an option: none where it is the blank
-  unfoldable pub some_opened : Option ℕ
-  some_opened = if eqb opened_value 0 then None else Some opened_value
-
   -- how many accepted ballots bear w
   unfoldable pub tally : ℕ → ℕ
   tally w = count_in n (λ (s : ℕ). accepts_ballot L n h r s w)
@@ -35,7 +31,3 @@ module _ (L : Limits) (n : ℕ) (h : Store) (r : ℕ) where
   -- only one, so it does not matter in which order they are looked through.
   unfoldable pub value_with : ℕ → ℕ
   value_with m = some_value n borne_by (λ (w : ℕ). neg (eqb w 0) and leb m (tally w))
-
-  -- the same as an option: none where it is the blank
-  unfoldable pub some_with : ℕ → Option ℕ
-  some_with m = if eqb (value_with m) 0 then None else Some (value_with m)

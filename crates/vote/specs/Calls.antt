@@ -1,7 +1,7 @@
 -- A board's life: any list of calls, the oldest first.
 use Rattle.std.specs.Prelude.{ℕ, List, [], ◌∷◌, Option, None, Some}
-use Rattle.delivery.specs.Limits.{Limits}
-use Rattle.vote.specs.Boards.{propose, deliver_to, suspect, trust}
+use Rattle.delivery.specs.Limits.{Limits, limits}
+use Rattle.vote.specs.Boards.{fresh_board, propose, deliver_to, suspect, trust}
 use Rattle.vote.specs.Turns.{turn}
 use Rattle.vote.specs.Announcements.{announce}
 use Rattle.vote.specs.declared.board.Board.{Board}
@@ -29,6 +29,10 @@ called L n me b (restored-trust k) = trust b k
 unfoldable pub after : Limits → ℕ → ℕ → Board → List Call → Board
 after L n me b [] = b
 after L n me b (c ∷ cs) = after L n me (called L n me b c) cs
+
+-- and from the start on
+abbrev pub board_after : ℕ → ℕ → List Call → Board
+board_after n me cs = after limits n me (fresh_board limits) cs
 
 -- what it signs, in the order in which it does
 unfoldable pub signed_in : Limits → ℕ → ℕ → Board → Call → Option Statement

@@ -1,11 +1,14 @@
--- What a reader must believe of a board's vote, in the order of document 01: what a board holds, how it starts and
+-- What a reader must believe of a board's vote, in the order of the scope paper: what a board holds, how it starts and
 -- what reaches it (Boards), its turns (Ballots, Rule, Turns), and a decision by announcement (Announcements); then any list
--- of these, for what holds of a board's whole life (Calls).
+-- of these, and what holds of a board's whole life (Calls, Life). Acts says a second time what a turn is, in words of its own, and
+-- Examples what comes of some. What private calls alone promise by stands apart, and last (Private).
 pub mod Boards
 pub mod Ballots
 pub mod Rule
 pub mod Turns
 pub mod Announcements
 pub mod Calls
+pub mod Life
 pub mod Examples
-pub mod Sentences
+pub mod Acts
+pub mod Private

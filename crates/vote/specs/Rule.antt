@@ -4,13 +4,12 @@ use Rattle.std.specs.Prelude.{ℕ, Bool, eqb, leb, ltb}
 use Rattle.std.specs.Prelude.{if◌then◌else◌}
 use Rattle.delivery.specs.Tests.{◌and◌, ◌or◌, neg}
 use Rattle.delivery.specs.Counting.{count_in, every_in}
-use Rattle.delivery.specs.Limits.{Limits, limits}
+use Rattle.delivery.specs.Limits.{Limits}
 use Rattle.delivery.specs.Bus.{quorum, overlap}
 use Rattle.delivery.specs.Rounds.{coordinator}
 use Rattle.delivery.specs.Sets.{in_set}
-use Rattle.delivery.specs.Delivered.{Store, heard}
+use Rattle.delivery.specs.Delivered.{Store}
 use Rattle.delivery.specs.Acceptance.{opening_entry, accepts_some}
-use Rattle.delivery.specs.declared.delivered.Delivered.{Delivered}
 use Rattle.vote.specs.Ballots.{opened_value, value_with}
 use Rattle.vote.specs.declared.position.Position.{Position}
 use Rattle.vote.specs.declared.position.Stage.{Stage}
@@ -71,16 +70,3 @@ move_at L n me p h Count = count_move L n p h
 
 unfoldable pub rule : Limits → ℕ → ℕ → Position → Store → Move
 rule L n me p h = move_at L n me p h p.stage
-
--- All that a board's move goes by: how many boards there are, where it stands, and what it has delivered; and what a
--- definition comes to by this, where it goes by the round, or by all of where the board stands.
-pub record Outset : Type 0 where
-  pub n : ℕ
-  pub position : Position
-  pub delivered : Delivered
-
-abbrev pub by_round : {A : Type 0} → (Limits → ℕ → Store → ℕ → A) → Outset → A
-by_round f o = f limits o.n (heard limits o.delivered) o.position.round.0
-
-abbrev pub by_position : {A : Type 0} → (Limits → ℕ → Position → Store → A) → Outset → A
-by_position f o = f limits o.n o.position (heard limits o.delivered)

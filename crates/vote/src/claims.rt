@@ -1,9 +1,32 @@
-ghost use Rattle.vote.specs.Sentences.{Turning, Leading};
+ghost use Rattle.vote.specs.Examples.{Examples};
+ghost use Rattle.vote.specs.Life.{DecidesByQuorum, DecidesOnce, SignsByStage, SignsRising, EstimateOpened, HoldsValues, EstimateAllowed, UntakenKeeps, StandsInRounds, HearsAlways, KeepsDelivered, SuspectsOnce};
+ghost use Rattle.vote.specs.Acts.{SameMove, SameTurn};
 
-// What is claimed of the rule of a turn, for every position and store: a board's move is the rule's exactly where the
-// sentences of `Turns` have it so, and in each round it comes to what `Leads` has it come to. It does nothing when it is called.
-#[tactic(auto, using(crate::proofs::Rules::turn_claims))]
+/// Claims that a turn is what `Acts`, `Leads` and `Takes` say in words of their own, for every board and all that it can have
+/// delivered. It does nothing when it is called.
 pub fn every_turn()
-    ensures sentences { Turning }
-    ensures leads { Leading }
+    ensures moves { SameMove }
+    ensures turns { SameTurn }
+{}
+
+/// Claims what holds of a board's whole life, for every list of calls of every kind in any order. It does nothing when it is
+/// called.
+pub fn every_life()
+    ensures backed { DecidesByQuorum }
+    ensures once { DecidesOnce }
+    ensures signs { SignsByStage }
+    ensures rising { SignsRising }
+    ensures opened { EstimateOpened }
+    ensures values { HoldsValues }
+    ensures allowed { EstimateAllowed }
+    ensures untaken { UntakenKeeps }
+    ensures stands { StandsInRounds }
+    ensures hears { HearsAlways }
+    ensures keeps { KeepsDelivered }
+    ensures repeated { SuspectsOnce }
+{}
+
+/// Claims the worked examples of a board's turns, with the numbers that they come to. It does nothing when it is called.
+pub fn worked_examples()
+    ensures { Examples }
 {}

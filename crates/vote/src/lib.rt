@@ -11,7 +11,7 @@ mod statement;
 mod turn;
 
 pub use board::{Board, Decision, Status};
-pub use claims::every_turn;
+pub use claims::{every_life, every_turn, worked_examples};
 pub use numbered::{Numbered, number_of};
 pub use position::{Position, Stage};
 pub use rule::Move;

@@ -1,9 +1,9 @@
 ghost use Rattle.std.specs.Prelude.{◌≡◌, ◌≤◌};
 ghost use Rattle.delivery.specs.Limits.{limits};
 ghost use Rattle.delivery.specs.Delivered.{heard};
-ghost use Rattle.vote.specs.Ballots.{some_opened, some_with};
-ghost use Rattle.vote.specs.Sentences.{Turns, OfValues};
-ghost use Rattle.vote.specs.Rule.{open_move, may_vote, vote_move, may_count, next_estimate, onward, count_move, rule, by_round, by_position};
+ghost use Rattle.vote.specs.Rule.{open_move, may_vote, vote_move, may_count, next_estimate, onward, count_move, rule};
+ghost use Rattle.vote.specs.Acts.{Acts, OfValues};
+ghost use Rattle.vote.specs.Private.{some_opened, some_with, by_round, by_position};
 
 use crate::position::{Position, Stage};
 use delivery::{Delivered, Poll, Round, bus};
@@ -32,7 +32,7 @@ struct Outlook<'a> {
 }
 
 impl<'a> Model for Outlook<'a> {
-    ghost use Rattle.vote.specs.Rule.{Outset};
+    ghost use Rattle.vote.specs.Private.{Outset};
 
     ghost Value = { Outset };
 
@@ -48,7 +48,7 @@ impl<'a> Outlook<'a> {
     }
 
     // The value of the round's opening, if it is accepted.
-    #[tactic(auto, using(crate::proofs::BallotLaws::opened_some), unfolding(crate::specs::Ballots::opened_value, crate::specs::Ballots::some_opened))]
+    #[tactic(auto, using(crate::proofs::BallotLaws::opened_some), unfolding(crate::specs::Ballots::opened_value, crate::specs::Private::some_opened))]
     fn opened_value(&self) -> Option<u16>
         ensures { result ≡ by_round some_opened self.now }
     {
@@ -58,7 +58,7 @@ impl<'a> Outlook<'a> {
 
     // The value that so many accepted ballots of the round bear, or more, if there is one. Only the opening's value can be
     // it, and where that is accepted so is each ballot that bears it.
-    #[tactic(auto, using(crate::proofs::Rules::rules_rule_outlook_value_with), unfolding(crate::specs::Ballots::some_with, crate::specs::Ballots::some_opened))]
+    #[tactic(auto, using(crate::proofs::Rules::rules_rule_outlook_value_with), unfolding(crate::specs::Private::some_with, crate::specs::Private::some_opened))]
     fn value_with(&self, least: u8) -> Option<u16>
         ensures { result ≡ by_round some_with self.now least }
     {
@@ -88,7 +88,7 @@ impl<'a> Outlook<'a> {
     }
 
     // Stage B.
-    #[tactic(auto, unfolding(crate::specs::Rule::vote_move, crate::specs::Ballots::some_opened))]
+    #[tactic(auto, unfolding(crate::specs::Rule::vote_move, crate::specs::Private::some_opened))]
     fn vote_move(&self) -> Move
         ensures { result ≡ by_position vote_move self.now }
     {
@@ -110,7 +110,7 @@ impl<'a> Outlook<'a> {
     }
 
     // The estimate that the round leaves the board with.
-    #[tactic(auto, unfolding(crate::specs::Rule::next_estimate, crate::specs::Ballots::some_with))]
+    #[tactic(auto, unfolding(crate::specs::Rule::next_estimate, crate::specs::Private::some_with))]
     fn next_estimate(&self) -> u16
         ensures { result ≡ by_position next_estimate self.now }
     {
@@ -132,7 +132,7 @@ impl<'a> Outlook<'a> {
     }
 
     // Stage C.
-    #[tactic(auto, unfolding(crate::specs::Rule::count_move, crate::specs::Ballots::some_with))]
+    #[tactic(auto, unfolding(crate::specs::Rule::count_move, crate::specs::Private::some_with))]
     fn count_move(&self) -> Move
         ensures { result ≡ by_position count_move self.now }
     {
@@ -148,10 +148,10 @@ impl<'a> Outlook<'a> {
 
 impl Position {
     // What board `me` of n does in its turn. The two numbers stay apart, as in `Board::next_move`.
-    #[tactic(auto, using(crate::proofs::Rules::turn_claims), unfolding(crate::specs::Rule::rule, crate::specs::Rule::move_at))]
+    #[tactic(auto, using(crate::proofs::Rules::rules_position_position_rule), unfolding(crate::specs::Rule::rule, crate::specs::Rule::move_at))]
     pub fn rule(&self, n: u8, me: u8, delivered: &Delivered) -> Move
         ensures moved { result ≡ rule limits n me self.now (heard limits delivered.now) }
-        ensures said { 1 ≤ n → OfValues (heard limits delivered.now) → Turns n me self.now (heard limits delivered.now) result }
+        ensures said { 1 ≤ n → OfValues (heard limits delivered.now) → Acts n me self.now (heard limits delivered.now) result }
     {
         let outlook = Outlook {
             n,

@@ -1,5 +1,5 @@
--- The rule of a turn and its sentences say the same. This goes by no law of the rule, which would only say its definition
--- again. Assumes nothing.
+-- A turn and what is said of it in words say the same. This goes by no law of the rule or of a turn, which would only say their
+-- definitions again. Assumes nothing.
 use Prim.Native.Nat.{ℕ, ◌+◌, ◌≤◌, ◌<◌}
 use native.Mathlib.Omega.{arith}
 use native.Mathlib.Decide.{ℕ_discrete, dec_lt}
@@ -7,30 +7,34 @@ use borrow.Author.Tests.{eqb-true, eqb-false, eq-eqb, ne_eqb, leb-true, le-leb, 
 use mathlib.Core.Path.{◌≡◌, refl, sym, ap, subst, subst⁻¹, ◌∙◌}
 use mathlib.Core.Bool.{true, true≢false}
 use mathlib.Core.Logic.{inl, inr, ⊎_elim}
+use Rattle.std.specs.Prelude.{None, Ok}
 use Rattle.signer.proofs.ConditionalLaws.{if-elim, if-true, if-false}
 use Rattle.delivery.specs.Limits.{limits}
 use Rattle.delivery.specs.Bus.{quorum, overlap}
-use Rattle.delivery.specs.Rounds.{coordinator, phase_of, identifier_of, next_round}
-use Rattle.delivery.specs.Delivered.{Store}
+use Rattle.delivery.specs.Rounds.{coordinator, identifier_of, next_round}
+use Rattle.delivery.specs.Delivered.{Store, heard}
 use Rattle.delivery.specs.Acceptance.{accepts_opening}
-use Rattle.delivery.specs.declared.round.Phase.TheVariants.{Opening, Ballot}
+use Rattle.delivery.specs.declared.round.Phase.TheVariants.{Opening}
 use Rattle.delivery.proofs.TestLaws.{and_left, and_right, and_in, or_cases, or_left, or_right, fails}
 use Rattle.delivery.proofs.CountLaws.{every-reads, reads-every, overlap-pos, overlap-le}
-use Rattle.delivery.proofs.RoundLaws.{identifier-at, next-at}
+use Rattle.delivery.proofs.RoundLaws.{identifier-opening, identifier-ballot, next-at}
 use Rattle.signer.proofs.FromOneLaws.{within_in}
 use Rattle.delivery.proofs.OneRoundLaws.{some-value, value-some}
 use Rattle.delivery.proofs.AllRoundsLaws.{opening-reads}
 use Rattle.vote.specs.Ballots.{opened_value, tally, value_with}
 use Rattle.vote.specs.Rule.{open_move, may_vote, vote_move, may_count, next_estimate, onward, count_move, move_at, rule}
-use Rattle.vote.specs.Turns.{at_stage, position_after, status_after, said_in}
-use Rattle.vote.specs.Sentences.{MayVote, MayCount, NoneHas, Leaves, changed, kept, Turns, opens-round, says-nothing, awaits-opening, backs-opening, votes-blank, awaits-ballots, decides-value, goes-on, is-spent, Leads, after-waiting, after-passing, after-opening, after-voting, after-deciding, after-round, after-last, OfValues, Turning, Leading}
+use Rattle.vote.specs.Boards.{hears}
+use Rattle.vote.specs.Turns.{answer_to, at_stage, position_after, status_after, said_in, hears_own, take, turn_in, turn}
+use Rattle.vote.specs.Acts.{MayVote, MayCount, NoneHas, Leaves, changed, kept, Acts, opens-round, says-nothing, awaits-opening, backs-opening, votes-blank, awaits-ballots, decides-value, goes-on, is-spent, untaken, Leads, after-waiting, after-passing, after-opening, after-voting, after-deciding, after-round, after-last, Takes, not-started, was-spent, had-decided, makes-move, OfValues, SameMove, SameTurn}
 use Rattle.vote.specs.declared.position.Position.{Position}
 use Rattle.vote.specs.declared.position.Stage.{Stage}
 use Rattle.vote.specs.declared.position.Stage.TheVariants.{Open, Vote, Count}
-use Rattle.std.specs.Prelude.{None}
-use Rattle.vote.specs.declared.board.Status.TheVariants.{Spent}
+use Rattle.vote.specs.declared.board.Board.{Board}
+use Rattle.vote.specs.declared.board.Status.{Status}
+use Rattle.vote.specs.declared.board.Status.TheVariants.{Idle, Voting, Spent, Decided}
 use Rattle.vote.specs.declared.rule.Move.{Move}
-use Rattle.vote.specs.declared.rule.Move.TheVariants.{Ballots, Decides, Advances, Expires}
+use Rattle.vote.specs.declared.rule.Move.TheVariants.{Waits, Ballots, Decides, Advances, Expires}
+use Rattle.vote.specs.declared.turn.Refusal.TheVariants.{Waiting}
 use Rattle.vote.proofs.BallotLaws.{Backed, opened-reads, opened_some, reads-opened, with-reads, backed-opened, reads-with}
 
 module _ (n me : ℕ) (p : Position) (h : Store) (some : 1 ≤ n) (fit : OfValues h) where
@@ -38,7 +42,7 @@ module _ (n me : ℕ) (p : Position) (h : Store) (some : 1 ≤ n) (fit : OfValue
   r = p.round.0
 
   abbrev T : Move → Type 0
-  T = Turns n me p h
+  T = Acts n me p h
 
   -- the opening that is accepted, or none
   opened : (v : ℕ) → accepts_opening limits n h r v ≡ true → opened_value limits n h r ≡ v
@@ -128,8 +132,8 @@ module _ (n me : ℕ) (p : Position) (h : Store) (some : 1 ≤ n) (fit : OfValue
   left v (kept f e) = if-true _ _ _ (eq-eqb _ _ (has-none (overlap n) f)) ∙ sym e
 
   -- the rule's move is one of the sentences
-  ballot-turns : p.stage ≡ Vote → may_vote limits n p h ≡ true → T (Ballots (opened_value limits n h r))
-  ballot-turns s t = go (ℕ_discrete (opened_value limits n h r) 0)
+  ballot-acts : p.stage ≡ Vote → may_vote limits n p h ≡ true → T (Ballots (opened_value limits n h r))
+  ballot-acts s t = go (ℕ_discrete (opened_value limits n h r) 0)
     where
       go : Dec (opened_value limits n h r ≡ 0) → T (Ballots (opened_value limits n h r))
       go (yes e) =
@@ -137,15 +141,15 @@ module _ (n me : ℕ) (p : Position) (h : Store) (some : 1 ≤ n) (fit : OfValue
           (λ (w : ℕ). T (Ballots w))
           e
           (votes-blank s (may-vote t) (λ v a. opened_some limits n h r v a (sym (opened v a) ∙ e)))
-      go (no z) = backs-opening (opened_value limits n h r) s (opened-reads limits n h r z)
+      go (no z) = backs-opening (opened_value limits n h r) s (may-vote t) (opened-reads limits n h r z)
 
-  rule-turns : T (rule limits n me p h)
+  rule-acts : T (rule limits n me p h)
   unfolding rule move_at open_move vote_move count_move onward tally
-  rule-turns = go p.stage refl
+  rule-acts = go p.stage refl
     where
       go : (g : Stage) → p.stage ≡ g → T (move_at limits n me p h g)
       go Open s = if-elim T _ _ _ (λ t. opens-round s (eqb-true _ _ t)) (λ f. says-nothing s (eqb-false _ _ f))
-      go Vote s = if-elim T _ _ _ (λ t. ballot-turns s t) (λ f. awaits-opening s (λ m. true≢false (sym (votes m) ∙ f)))
+      go Vote s = if-elim T _ _ _ (λ t. ballot-acts s t) (λ f. awaits-opening s (λ m. true≢false (sym (votes m) ∙ f)))
       go Count s =
           if-elim
           T
@@ -175,61 +179,79 @@ module _ (n me : ℕ) (p : Position) (h : Store) (some : 1 ≤ n) (fit : OfValue
   unfolding rule
   at g s = ap (move_at limits n me p h) s
 
-  turns-rule : (m : Move) → T m → rule limits n me p h ≡ m
+  acts-rule : (m : Move) → T m → rule limits n me p h ≡ m
   unfolding move_at open_move vote_move count_move onward tally
-  turns-rule _ (opens-round s e) = at Open s ∙ if-true _ _ _ (eq-eqb _ _ e)
-  turns-rule _ (says-nothing s f) = at Open s ∙ if-false _ _ _ (ne_eqb _ _ f)
-  turns-rule _ (awaits-opening s f) = at Vote s ∙ if-false _ _ _ (fails _ (λ t. f (may-vote t)))
-  turns-rule _ (backs-opening v s a) =
-      at Vote s
-      ∙ if-true _ _ _ (votes (inl (λ z. omega (arith, z, (opening-reads limits n h r v a).said))))
-      ∙ ap Ballots (opened v a)
-  turns-rule _ (votes-blank s m f) = at Vote s ∙ if-true _ _ _ (votes m) ∙ ap Ballots (unopened f)
-  turns-rule _ (awaits-ballots s f) = at Count s ∙ if-false _ _ _ (fails _ (λ t. f (may-count t)))
-  turns-rule _ (decides-value v s m z l) =
+  acts-rule _ (opens-round s e) = at Open s ∙ if-true _ _ _ (eq-eqb _ _ e)
+  acts-rule _ (says-nothing s f) = at Open s ∙ if-false _ _ _ (ne_eqb _ _ f)
+  acts-rule _ (awaits-opening s f) = at Vote s ∙ if-false _ _ _ (fails _ (λ t. f (may-vote t)))
+  acts-rule _ (backs-opening v s m a) = at Vote s ∙ if-true _ _ _ (votes m) ∙ ap Ballots (opened v a)
+  acts-rule _ (votes-blank s m f) = at Vote s ∙ if-true _ _ _ (votes m) ∙ ap Ballots (unopened f)
+  acts-rule _ (awaits-ballots s f) = at Count s ∙ if-false _ _ _ (fails _ (λ t. f (may-count t)))
+  acts-rule _ (decides-value v s m z l) =
       let e : value_with limits n h r (quorum n) ≡ v = found (quorum n) v q-some z l in
       at Count s ∙ if-true _ _ _ (counts m) ∙ if-false _ _ _ (ne_eqb _ _ (λ o. z (sym e ∙ o))) ∙ ap Decides e
-  turns-rule _ (goes-on v s m f l x) =
+  acts-rule _ (goes-on v s m f l x) =
       at Count s
       ∙ if-true _ _ _ (counts m)
       ∙ if-true _ _ _ (eq-eqb _ _ (has-none (quorum n) f))
       ∙ if-true _ _ _ (lt-ltb _ _ l)
       ∙ ap Advances (left v x)
-  turns-rule _ (is-spent v s m f l x) =
+  acts-rule _ (is-spent v s m f l x) =
       at Count s
       ∙ if-true _ _ _ (counts m)
       ∙ if-true _ _ _ (eq-eqb _ _ (has-none (quorum n) f))
       ∙ if-false _ _ _ (le-ltb _ _ l)
       ∙ ap Expires (left v x)
 
-  -- what it comes to
-  leads : 1 ≤ r → r ≤ limits.rounds → (m : Move) → T m → Leads me p m (position_after limits m p) (status_after r m) (said_in limits me r m)
-  unfolding position_after at_stage status_after said_in phase_of
-  leads low high _ (awaits-opening s f) = after-waiting
-  leads low high _ (awaits-ballots s f) = after-waiting
-  leads low high _ (says-nothing s f) = after-passing
-  leads low high _ (opens-round s e) =
-      rw (identifier-at limits Opening r (within_in limits.rounds r low high)) (after-opening p.estimate)
-  leads low high _ (backs-opening v s a) =
-      rw (identifier-at limits Ballot r (within_in limits.rounds r low high)) (after-voting v)
-  leads low high _ (votes-blank s m f) =
-      rw (identifier-at limits Ballot r (within_in limits.rounds r low high)) (after-voting 0)
-  leads low high _ (decides-value v s m z l) = after-deciding v
-  leads low high _ (goes-on v s m f l x) =
-      let e : next_round limits r ≡ r + 1 = next-at limits r l ∙ omega arith in rw e (after-round v)
-  leads low high _ (is-spent v s m f l x) =
-      let e : r ≡ limits.rounds = omega (arith, high, l) in
-      let q : position_after limits (Expires v) p ≡ record { round = record { 0 = limits.rounds }; estimate = v; stage = Count; suspected = p.suspected } =
-      λ i. record { round = record { 0 = e i }; estimate = v; stage = s i; suspected = p.suspected } in
-      subst⁻¹ (λ (x : Position). Leads me p (Expires v) x Spent None) q (after-last v)
+-- what comes of a move, of a board that is voting in a round
+module _ (n me : ℕ) (b : Board) (voting : b.status ≡ Voting) (low : 1 ≤ b.position.round.0) (high : b.position.round.0 ≤ limits.rounds) where
+  abbrev now : ℕ
+  now = b.position.round.0
+
+  waits : Leads me b Waits (take limits me b Waits)
+  unfolding answer_to position_after status_after said_in hears_own
+  waits =
+      subst⁻¹
+      (Leads me b Waits)
+      (ap (λ (t : Status). untaken (record { position = b.position; delivered = b.delivered; status = t }) Waiting) (sym voting))
+      after-waiting
+
+  leads : (m : Move) → Acts n me b.position (heard limits b.delivered) m → Leads me b m (take limits me b m)
+  unfolding answer_to at_stage position_after status_after said_in hears_own hears
+  leads _ (awaits-opening s f) = waits
+  leads _ (awaits-ballots s f) = waits
+  leads _ (says-nothing s f) = after-passing
+  leads _ (opens-round s e) =
+      rw (identifier-opening limits now (within_in limits.rounds now low high)) (after-opening b.position.estimate)
+  leads _ (backs-opening v s m a) =
+      rw (identifier-ballot limits now (within_in limits.rounds now low high)) (after-voting v)
+  leads _ (votes-blank s m f) =
+      rw (identifier-ballot limits now (within_in limits.rounds now low high)) (after-voting 0)
+  leads _ (decides-value v s m z l) = after-deciding v
+  leads _ (goes-on v s m f l x) =
+      let e : next_round limits now ≡ now + 1 = next-at limits now l ∙ omega arith in rw e (after-round v)
+  leads _ (is-spent v s m f l x) =
+      let e : now ≡ limits.rounds = omega (arith, high, l) in
+      let q : position_after limits (Expires v) b.position ≡ record { round = record { 0 = limits.rounds }; estimate = v; stage = Count; suspected = b.position.suspected } =
+      λ i. record { round = record { 0 = e i }; estimate = v; stage = s i; suspected = b.position.suspected } in
+      subst⁻¹ (λ (x : Position). Leads me b (Expires v) (record { board = record { position = x; delivered = b.delivered; status = Spent }; answer = Ok tt; signed = None })) q (after-last v)
 
 -- the claims
-pub rule-said : Turning
+pub rule-said : SameMove
 rule-said n me p h m some fit = (
-  λ (e : rule limits n me p h ≡ m). subst (Turns n me p h) e (rule-turns n me p h some fit),
-  turns-rule n me p h some fit m,
+  λ (e : rule limits n me p h ≡ m). subst (Acts n me p h) e (rule-acts n me p h some fit),
+  acts-rule n me p h some fit m,
 )
 
-pub rule-leads : Leading
-rule-leads n me p h some fit low high =
-    leads n me p h some fit low high (rule limits n me p h) (rule-turns n me p h some fit)
+pub turn-said : SameTurn
+unfolding turn turn_in
+turn-said n me b some fit round = go b.status refl
+  where
+    go : (s : Status) → b.status ≡ s → Takes n me b (turn_in limits n me b s)
+    go Idle e = not-started e
+    go Voting e =
+        let m = rule limits n me b.position (heard limits b.delivered) in
+        let x = rule-acts n me b.position (heard limits b.delivered) some fit in
+        makes-move m (take limits me b m) e x (leads n me b e (round e).0 (round e).1 m x)
+    go Spent e = was-spent e
+    go (Decided d) e = had-decided d e
