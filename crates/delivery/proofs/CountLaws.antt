@@ -66,6 +66,18 @@ reads-every zero p h = refl
 reads-every (suc n) p h =
     and_in (p (suc n)) (every_in n p) (h (suc n) (omega arith) (omega arith)) (reads-every n p (λ k l u. h k l (omega arith)))
 
+-- where not all do, one fails
+pub every-fails : (n : ℕ) (p : ℕ → Bool) → every_in n p ≡ false → (k : ℕ) × (1 ≤ k) × (k ≤ n) × (p k ≡ false)
+unfolding every_in ◌and◌
+every-fails zero p h = absurd (true≢false h)
+every-fails (suc n) p h = go (p (suc n)) refl h (every-fails n p)
+  where
+    go : (b : Bool) → p (suc n) ≡ b → (b and every_in n p) ≡ false
+        → (every_in n p ≡ false → (k : ℕ) × (1 ≤ k) × (k ≤ n) × (p k ≡ false))
+        → (k : ℕ) × (1 ≤ k) × (k ≤ suc n) × (p k ≡ false)
+    go false e g rest = (suc n, omega arith, omega arith, e)
+    go true e g rest = let x = rest g in (x.0, x.1, omega (arith, x.2), x.3)
+
 -- all pass exactly if the count is n
 count-every : (n : ℕ) (p : ℕ → Bool) → every_in n p ≡ true → count_in n p ≡ n
 unfolding count_in plus
