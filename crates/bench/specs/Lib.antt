@@ -17,3 +17,4 @@ pub mod Claim
 pub mod Demands
 pub mod Applies
 pub mod Making
+pub mod Private
