@@ -19,7 +19,7 @@ use Rattle.delivery.proofs.CountLaws.{every-reads, every-fails}
 use Rattle.delivery.proofs.SetLaws.{set-cong, in-set_of-within, in-set_of-passes}
 use Rattle.bench.specs.Setups.{is_mark_at, is_marked_sound, setup_by, fresh_answer, bench_of, fresh_bench, fresh_of}
 use Rattle.bench.specs.Answers.{setup_number, fresh_number}
-use Rattle.bench.specs.Making.{CanBe, mark, Making}
+use Rattle.bench.specs.Making.{IsBusSize, mark, Making}
 use Rattle.bench.specs.declared.answer.SetupFault.{SetupFault}
 use Rattle.bench.specs.declared.answer.SetupFault.TheVariants.{NoBus, NoMark}
 use Rattle.bench.specs.declared.bench.Bench.{Bench}
@@ -27,9 +27,9 @@ use Rattle.bench.proofs.SetupLaws.{in_within, all, alone-set}
 
 -- how the call goes
 data Course (n : ℕ) (marks : List ℕ) : Type 0 where
-  cannot-be : (CanBe n → ⊥) → fresh_answer limits n marks ≡ Err NoBus → Course n marks
-  ill-marked : CanBe n → ((k : ℕ) × (1 ≤ k) × (k ≤ n) × (1 < mark marks k)) → fresh_answer limits n marks ≡ Err NoMark → Course n marks
-  goes-well : CanBe n → ((k : ℕ) → 1 ≤ k → k ≤ n → mark marks k ≤ 1) → fresh_answer limits n marks ≡ Ok tt → Course n marks
+  cannot-be : (IsBusSize n → ⊥) → fresh_answer limits n marks ≡ Err NoBus → Course n marks
+  ill-marked : IsBusSize n → ((k : ℕ) × (1 ≤ k) × (k ≤ n) × (1 < mark marks k)) → fresh_answer limits n marks ≡ Err NoMark → Course n marks
+  goes-well : IsBusSize n → ((k : ℕ) → 1 ≤ k → k ≤ n → mark marks k ≤ 1) → fresh_answer limits n marks ≡ Ok tt → Course n marks
 
 module _ (n : ℕ) (marks : List ℕ) where
   abbrev A : Result (Unit {0}) SetupFault → Type 0
@@ -69,18 +69,18 @@ module _ (n : ℕ) (marks : List ℕ) where
   unfolding number fresh_of fresh_number setup_number
   is-3 e = ap fresh_number e
 
-  no-bus : (number ≡ 2) ↔ (CanBe n → ⊥)
+  no-bus : (number ≡ 2) ↔ (IsBusSize n → ⊥)
   no-bus = go course
     where
-      go : Course n marks → (number ≡ 2) ↔ (CanBe n → ⊥)
+      go : Course n marks → (number ≡ 2) ↔ (IsBusSize n → ⊥)
       go (cannot-be f e) = (λ i. f, λ g. is-2 e)
       go (ill-marked x k e) = (λ i. absurd (omega (arith, i, is-3 e)), λ g. absurd (g x))
       go (goes-well x m e) = (λ i. absurd (omega (arith, i, is-0 e)), λ g. absurd (g x))
 
-  no-mark : (number ≡ 3) ↔ (CanBe n × ((k : ℕ) × (1 ≤ k) × (k ≤ n) × (1 < mark marks k)))
+  no-mark : (number ≡ 3) ↔ (IsBusSize n × ((k : ℕ) × (1 ≤ k) × (k ≤ n) × (1 < mark marks k)))
   no-mark = go course
     where
-      go : Course n marks → (number ≡ 3) ↔ (CanBe n × ((k : ℕ) × (1 ≤ k) × (k ≤ n) × (1 < mark marks k)))
+      go : Course n marks → (number ≡ 3) ↔ (IsBusSize n × ((k : ℕ) × (1 ≤ k) × (k ≤ n) × (1 < mark marks k)))
       go (cannot-be f e) = (λ i. absurd (omega (arith, i, is-2 e)), λ y. absurd (f y.0))
       go (ill-marked x k e) = (λ i. (x, k), λ y. is-3 e)
       go (goes-well x m e) = (
