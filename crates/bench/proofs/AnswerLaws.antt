@@ -64,6 +64,11 @@ pub refused-so : (r : Refusal) → is_accepted (Err r) ≡ false
 unfolding is_accepted
 refused-so r = refl
 
+pub accepted-ok : (a : Result (Unit {0}) Refusal) → is_accepted a ≡ true → (u : Unit {0}) × (a ≡ Ok u)
+unfolding is_accepted
+accepted-ok (Ok u) t = (u, refl)
+accepted-ok (Err r) t = absurd (true≢false (sym t))
+
 -- and 0 is the number of an accepted event alone
 accepted-number : (a : Result (Unit {0}) Refusal) → is_accepted a ≡ true → answer_number a ≡ 0
 unfolding is_accepted answer_number
