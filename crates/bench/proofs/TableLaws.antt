@@ -9,11 +9,11 @@ use native.Mathlib.Omega.{arith}
 use Rattle.std.proofs.lemmas.Bool.Decides.{nat_tests}
 use borrow.Author.Tests.{eq-eqb}
 use Rattle.signer.specs.FromOne.{is_within}
-use Rattle.signer.proofs.ConditionalLaws.{if-true, if-false, if-elim}
+use Rattle.signer.proofs.ConditionalLaws.{if-false, if-elim}
 use Rattle.delivery.specs.Tests.{◌or◌, neg}
-use Rattle.delivery.proofs.TestLaws.{and-under, or_left, or-no-left, or-false-left, or-false-right, neg-no, neg-in, neg-false, fails}
+use Rattle.delivery.proofs.TestLaws.{and-under, or_left, or-false-left, or-false-right, neg-no, neg-in, neg-false, fails}
 use Rattle.signer.proofs.FromOneLaws.{within_low, within-high, within_in}
-use Rattle.bench.specs.Events.{turning, delivering, announcing, suspecting, trusting, signing, kind_number, kind_of, uses_other, uses_id}
+use Rattle.bench.specs.Events.{turning, delivering, signing, kind_number, kind_of, uses_other}
 use Rattle.bench.specs.Table.{kind_row, boards_row, start_row, end_row, first_of, event_rows, state_rows, turn_rows, check_of}
 use Rattle.bench.specs.declared.event.Kind.{Kind}
 use Rattle.bench.specs.declared.event.Kind.TheVariants.{Propose, Turn, Deliver, Announce, Suspect, Trust, Sign}
@@ -47,21 +47,10 @@ unfolding neg
 not_same true b h = ap neg h
 not_same false b h = ap neg h
 
--- a kind with another board that is no delivery is an announcement, suspicion or trust
-pub other-rest : (k : ℕ) → eqb k delivering ≡ false
-    → uses_other k ≡ (eqb k announcing or eqb k suspecting or eqb k trusting)
-unfolding uses_other
-other-rest k h = or-no-left _ _ h
-
--- a kind with an identifier that is no announcement is a delivery or a signature
-pub id-rest : (k : ℕ) → eqb k announcing ≡ false → uses_id k ≡ (eqb k delivering or eqb k signing)
-unfolding uses_id
-id-rest k h = ap (λ (b : Bool). eqb k delivering or b) (or-no-left _ _ h)
-
 -- a delivery names another board
 pub delivers-other : (k : ℕ) → k ≡ delivering → uses_other k ≡ true
-unfolding uses_other
-delivers-other k h = or_left _ _ (eq-eqb k delivering h)
+unfolding uses_other ◌or◌
+delivers-other k h = ap uses_other h
 
 -- where row 11 does not apply, a is a board of the bench, and so is b if it is used
 module _ (c : Bench) (e : Event) (h : boards_row c e ≡ false) where
@@ -73,13 +62,7 @@ module _ (c : Bench) (e : Event) (h : boards_row c e ≡ false) where
   unfolding boards_row
   boards-b k = neg-false _ (and-under _ _ k (or-false-right _ _ h))
 
--- a row that applies is the first
-pub first-takes : (b : Bool) (r : Refusal) (rows : List (Bool × Refusal))
-    → b ≡ true → first_of ((b, r) ∷ rows) ≡ Err r
-unfolding first_of
-first-takes b r rows h = if-true _ _ _ h
-
--- and one that does not is passed over
+-- a row that does not apply is passed over
 pub first-skips : (b : Bool) (r : Refusal) (rows : List (Bool × Refusal))
     → b ≡ false → first_of ((b, r) ∷ rows) ≡ first_of rows
 unfolding first_of
