@@ -1,9 +1,8 @@
 -- Laws of the answers to an event: 0 is that of an accepted one alone, and what then comes of the bench. Assumes nothing.
 use Prim.Native.Nat.{ℕ}
 use native.Mathlib.Omega.{arith}
-use borrow.Author.Tests.{eqb-true, eqb-false, ne_eqb}
-use mathlib.Core.Path.{◌≡◌, refl, ap, ◌∙◌}
-use mathlib.Core.Bool.{true, false}
+use mathlib.Core.Path.{◌≡◌, refl, sym, ap, ◌∙◌}
+use mathlib.Core.Bool.{true, false, true≢false}
 use Rattle.std.specs.Prelude.{Result, Ok, Err}
 use mathlib.Core.Logic.{⊎_elim}
 use Rattle.signer.proofs.ConditionalLaws.{if-true, if-false}
@@ -42,7 +41,7 @@ turn-some r e = omega (arith, e, turn-within r)
 
 -- an event is accepted where no row applies, and where one does it is refused
 pub accepted-so : (u : Unit {0}) → is_accepted (Ok u) ≡ true
-unfolding is_accepted answer_number
+unfolding is_accepted
 accepted-so u = refl
 
 refusal-some : (r : Refusal) → refusal_number r ≡ 0 → ⊥
@@ -62,8 +61,24 @@ refusal-some FewBallots e = omega (arith, e)
 refusal-some MustWait e = turn-some Waiting e
 
 pub refused-so : (r : Refusal) → is_accepted (Err r) ≡ false
+unfolding is_accepted
+refused-so r = refl
+
+pub accepted-ok : (a : Result (Unit {0}) Refusal) → is_accepted a ≡ true → (u : Unit {0}) × (a ≡ Ok u)
+unfolding is_accepted
+accepted-ok (Ok u) t = (u, refl)
+accepted-ok (Err r) t = absurd (true≢false (sym t))
+
+-- and 0 is the number of an accepted event alone
+accepted-number : (a : Result (Unit {0}) Refusal) → is_accepted a ≡ true → answer_number a ≡ 0
 unfolding is_accepted answer_number
-refused-so r = ne_eqb (refusal_number r) 0 (refusal-some r)
+accepted-number (Ok u) t = refl
+accepted-number (Err r) t = absurd (true≢false (sym t))
+
+refused-number : (a : Result (Unit {0}) Refusal) → is_accepted a ≡ false → answer_number a ≡ 0 → ⊥
+unfolding is_accepted answer_number
+refused-number (Ok u) f = absurd (true≢false f)
+refused-number (Err r) f = refusal-some r
 
 -- so does what a board answers to a turn that it does not take
 pub start-refused : is_accepted (Err WrongStart) ≡ false
@@ -79,18 +94,18 @@ wait-refused = refused-so MustWait
 module _ (L : Limits) (c : Bench) (e : Event) where
   pub step-accepted : is_accepted (check_of L c e) ≡ true
       → ((step_of L c e).bench ≡ effect_of L c e) × (answer_number (step_of L c e).answer ≡ 0)
-  unfolding step_of is_accepted
+  unfolding step_of
   step-accepted t = (
     if-true (is_accepted (check_of L c e)) (effect_of L c e) c t,
-    eqb-true (answer_number (check_of L c e)) 0 t,
+    accepted-number (check_of L c e) t,
   )
 
   pub step-refused : is_accepted (check_of L c e) ≡ false
       → ((step_of L c e).bench ≡ c) × (answer_number (step_of L c e).answer ≡ 0 → ⊥)
-  unfolding step_of is_accepted
+  unfolding step_of
   step-refused f = (
     if-false (is_accepted (check_of L c e)) (effect_of L c e) c f,
-    eqb-false (answer_number (check_of L c e)) 0 f,
+    refused-number (check_of L c e) f,
   )
 
 -- so the bench after an event is the one it leads to where no row applies, and the one of before where one does

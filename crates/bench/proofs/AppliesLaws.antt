@@ -1,5 +1,5 @@
 -- The answer to an event is the lowest number that applies. Assumes nothing.
-use Prim.Native.Nat.{ℕ, suc, ◌≤◌, ◌<◌}
+use Prim.Native.Nat.{ℕ, suc, ◌+◌, ◌≤◌, ◌<◌}
 use native.Mathlib.Omega.{arith}
 use native.Mathlib.Decide.{dec_lt}
 use borrow.Author.Tests.{eqb-true, eq-eqb, leb-true, le-leb, ltb-true, lt-ltb}
@@ -18,9 +18,10 @@ use Rattle.delivery.specs.Limits.{limits}
 use Rattle.delivery.specs.Bus.{quorum}
 use Rattle.vote.specs.Ballots.{tally}
 use Rattle.delivery.proofs.TestLaws.{and_left, and_right, and_in, or_cases, or_left, or_right, neg-true, neg-in, fails, decided}
-use Rattle.vote.proofs.StatusLaws.{ended-decided, ended-spent, decided-one}
-use Rattle.vote.proofs.TurnLaws.{turn-idle, turn-ended}
-use Rattle.vote.specs.Turns.{turn_number, turn}
+use Rattle.vote.proofs.StatusLaws.{unstarted-idle, idle-unstarted, decided-some, decided-decided, ended-some, ended-decided, ended-spent, has-decided, decided-has}
+use Rattle.vote.proofs.TurnLaws.{turn-idle, turn-ended, not_started-is, ended-is, waiting-is}
+use Rattle.vote.specs.Turns.{turn, turn_number}
+use Rattle.vote.specs.declared.turn.Refusal.TheVariants.{Ended}
 use Rattle.vote.specs.declared.rule.Move.{Move}
 use Rattle.vote.specs.declared.rule.Move.TheVariants.{Waits, Passes, Opens, Ballots, Decides as Decides-it, Advances, Expires}
 use Rattle.vote.specs.declared.turn.Turn.{Turn}
@@ -38,7 +39,7 @@ use Rattle.bench.specs.Benches.{is_sound, board_at, signer_at, heard_by, signed_
 use Rattle.bench.specs.Answers.{refusal_number, answer_number}
 use Rattle.bench.specs.Table.{kind_row, boards_row, wrong_other, wrong_id, wrong_value, fields_row, mark_row, pair_row, start_row, end_row, signed_row, last_row, delivered_row, announcer_row, ballots_row, is_waiting, refuses, must_wait, turn_row, first_of, table_of, check_of}
 use Rattle.bench.specs.Effects.{step_of}
-use Rattle.bench.specs.Applies.{OneOf, Applies, no-kind, no-board, no-other, unused-other, unused-id, unused-value, no-identifier, no-round, blank, sound-asked, faulty-told, of-itself, started, not-started, ended, decided as has-decided, not-signed, not-above, delivered, not-decided, few-ballots, waits, unsigned, Answering}
+use Rattle.bench.specs.Applies.{OneOf, Applies, no-kind, no-board, no-other, unused-other, unused-id, unused-value, no-identifier, no-round, blank, sound-asked, faulty-told, of-itself, started, not-started, ended, decided as is-decided, not-signed, not-above, delivered, not-decided, few-ballots, waits, unsigned, Answering}
 use Rattle.bench.specs.declared.bench.Bench.{Bench}
 use Rattle.bench.specs.declared.event.Event.{Event}
 use Rattle.bench.specs.declared.answer.Refusal.{Refusal}
@@ -77,47 +78,25 @@ it-decides b = (λ t. t, λ t. t)
 
 -- how far a board is
 idle-decides : (s : Status) → Decides (neg (is_started s)) (s ≡ Idle)
-unfolding is_started neg
-idle-decides Idle = (λ t. refl, λ e. refl)
-idle-decides Voting = (λ t. absurd (true≢false (sym t)), λ e. cc)
-idle-decides Spent = (λ t. absurd (true≢false (sym t)), λ e. cc)
-idle-decides (Decided d) = (λ t. absurd (true≢false (sym t)), λ e. cc)
+idle-decides s = (λ t. unstarted-idle s (neg-true _ t), λ e. neg-in _ (ap is_started e ∙ idle-unstarted))
 
 started-decides : (s : Status) → Decides (is_started s) (s ≡ Idle → ⊥)
-unfolding is_started
-started-decides Idle = (λ t. absurd (true≢false (sym t)), λ f. absurd (f refl))
-started-decides Voting = (λ t e. cc, λ f. refl)
-started-decides Spent = (λ t e. cc, λ f. refl)
-started-decides (Decided d) = (λ t e. cc, λ f. refl)
+started-decides s = (
+  λ t e. true≢false (sym t ∙ ap is_started e ∙ idle-unstarted),
+  λ f. ⊎_elim (λ t. t) (λ n. absurd (f (unstarted-idle s n))) (decided (is_started s)),
+)
 
 decided-decides : (s : Status) → Decides (is_decided s) ((d : Decision) × (s ≡ Decided d))
-unfolding is_decided
-decided-decides Idle = (λ t. absurd (true≢false (sym t)), λ x. let e = x.1 in cc)
-decided-decides Voting = (λ t. absurd (true≢false (sym t)), λ x. let e = x.1 in cc)
-decided-decides Spent = (λ t. absurd (true≢false (sym t)), λ x. let e = x.1 in cc)
-decided-decides (Decided d) = (λ t. (d, refl), λ x. refl)
+decided-decides s = (decided-some s, λ x. ap is_decided x.1 ∙ decided-decided x.0)
 
 ended-decides : (s : Status) → Decides (is_ended s) ((s ≡ Spent) ⊎ ((d : Decision) × (s ≡ Decided d)))
-unfolding is_ended
-ended-decides Idle = (λ t. absurd (true≢false (sym t)), λ x. ⊎_elim (λ (e : Idle ≡ Spent). cc) (λ (y : (d : Decision) × (Idle ≡ Decided d)). let e = y.1 in cc) x)
-ended-decides Voting = (λ t. absurd (true≢false (sym t)), λ x. ⊎_elim (λ (e : Voting ≡ Spent). cc) (λ (y : (d : Decision) × (Voting ≡ Decided d)). let e = y.1 in cc) x)
-ended-decides Spent = (λ t. inl refl, λ x. refl)
-ended-decides (Decided d) = (λ t. inr (d, refl), λ x. refl)
+ended-decides s = (
+  ended-some s,
+  λ x. ⊎_elim (λ e. ap is_ended e ∙ ended-spent) (λ y. ap is_ended y.1 ∙ ended-decided y.0) x,
+)
 
 so-decides : (s : Status) (r v : ℕ) → Decides (has_decided s r v) (s ≡ Decided (decision_of r v))
-unfolding has_decided
-so-decides Idle r v = (λ t. absurd (true≢false (sym t)), λ e. cc)
-so-decides Voting r v = (λ t. absurd (true≢false (sym t)), λ e. cc)
-so-decides Spent r v = (λ t. absurd (true≢false (sym t)), λ e. cc)
-so-decides (Decided d) r v = (
-  λ t.
-      let p = eqb-true d.round.0 r (and_left _ _ t) in
-      let q = eqb-true d.value v (and_right _ _ t) in
-      λ i. Decided (record { round = record { 0 = p i }; value = q i }),
-  λ e.
-      let i : d ≡ decision_of r v = decided-one d (decision_of r v) e in
-      and_in _ _ (eq-eqb _ _ (ap (λ (x : Decision). x.round.0) i)) (eq-eqb _ _ (ap (λ (x : Decision). x.value) i)),
-)
+so-decides s r v = (has-decided s r v, decided-has s r v)
 
 -- the fields that a kind uses
 module _ (k : ℕ) where
@@ -318,12 +297,12 @@ module _ (c : Bench) (e : Event) where
       _
       (and-decides _ _ (is 2) (ended-decides (status e.a)))
       (and-decides _ _ (is 4) (decided-decides (status e.a))))
-      (λ x. ⊎_elim (λ y. ended y.0 y.1) (λ y. has-decided y.0 y.1) x)
+      (λ x. ⊎_elim (λ y. ended y.0 y.1) (λ y. is-decided y.0 y.1) x)
       from
     where
       from : A 16 → ((e.kind ≡ 2) × ((status e.a ≡ Spent) ⊎ ((d : Decision) × (status e.a ≡ Decided d)))) ⊎ ((e.kind ≡ 4) × ((d : Decision) × (status e.a ≡ Decided d)))
       from (ended k s) = inl (k, s)
-      from (has-decided k s) = inr (k, s)
+      from (is-decided k s) = inr (k, s)
 
   row-17 : Decides (signed_row limits c e) (A 17)
   unfolding signed_row
@@ -399,7 +378,7 @@ module _ (c : Bench) (e : Event) where
   least _ (started _ _) = (omega arith, omega arith)
   least _ (not-started _ _) = (omega arith, omega arith)
   least _ (ended _ _) = (omega arith, omega arith)
-  least _ (has-decided _ _) = (omega arith, omega arith)
+  least _ (is-decided _ _) = (omega arith, omega arith)
   least _ (not-signed _ _) = (omega arith, omega arith)
   least _ (not-above _ _) = (omega arith, omega arith)
   least _ (delivered _ _) = (omega arith, omega arith)
@@ -432,24 +411,27 @@ lowest A m _ (says-row _ false r rs i d s) = go (lowest A (suc m) rs s)
     go (no-number z f) = no-number z (λ k l a. ⊎_elim (λ (j : k ≡ m). first-not k j a) (λ (n : k ≡ m → ⊥). f k (omega arith) a) (same_or_not k m))
     go (a-number l a f) = a-number (omega arith) a (λ k p u x. ⊎_elim (λ (j : k ≡ m). first-not k j x) (λ (n : k ≡ m → ⊥). f k (omega arith) u x) (same_or_not k m))
 
+ended-16 : turn_number Ended ≡ 16
+ended-16 = ended-is ∙ ap (λ (m : ℕ). m + 1) not_started-is
+
 -- the rows of the table are such rows, from 10 on
 module _ (c : Bench) (e : Event) where
   table-says : Says (Applies c e) 10 (table_of limits c e)
-  unfolding refusal_number turn_number
+  unfolding refusal_number
   table-says =
       says-row 10 _ _ _ refl (row-10 c e)
       (says-row 11 _ _ _ refl (row-11 c e)
       (says-row 12 _ _ _ refl (row-12 c e)
       (says-row 13 _ _ _ refl (row-13 c e)
       (says-row 14 _ _ _ refl (row-14 c e)
-      (says-row 15 _ _ _ refl (row-15 c e)
-      (says-row 16 _ _ _ refl (row-16 c e)
+      (says-row 15 _ _ _ not_started-is (row-15 c e)
+      (says-row 16 _ _ _ ended-16 (row-16 c e)
       (says-row 17 _ _ _ refl (row-17 c e)
       (says-row 18 _ _ _ refl (row-18 c e)
       (says-row 19 _ _ _ refl (row-19 c e)
       (says-row 20 _ _ _ refl (row-20 c e)
       (says-row 21 _ _ _ refl (row-21 c e)
-      (says-row 22 _ _ _ refl (row-22 c e)
+      (says-row 22 _ _ _ waiting-is (row-22 c e)
       (none-left 23 (λ k l a. omega (arith, l, (least c e k a).1)))))))))))))))
 
   answer : ℕ
@@ -484,11 +466,11 @@ module _ (c : Bench) (e : Event) where
               (same_or_not answer m)
 
 pub answering : Answering
-unfolding answer refusal_number turn_number
+unfolding answer refusal_number
 answering =
     record {
       accepted = accepted-none;
       first = first-number;
-      numbers = λ c e. refl;
+      numbers = λ c e i. 10 ∷ 11 ∷ 12 ∷ 13 ∷ 14 ∷ not_started-is i ∷ ended-16 i ∷ 17 ∷ 18 ∷ 19 ∷ 20 ∷ 21 ∷ waiting-is i ∷ [];
       refused = refused-same limits;
     }

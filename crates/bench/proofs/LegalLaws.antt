@@ -1,10 +1,10 @@
 -- What an accepted event is: each row of the table that it passed, and by its kind what then holds and what it does.
 -- Assumes nothing.
-use Prim.Native.Nat.{ℕ, zero, suc, ◌≤◌, ◌<◌}
+use Prim.Native.Nat.{ℕ, ◌≤◌, ◌<◌}
 use native.Mathlib.Omega.{arith}
+use native.Mathlib.Decide.{ℕ_discrete}
 use mathlib.Core.Path.{◌≡◌, refl, sym, ap, ◌∙◌}
-use mathlib.Core.Bool.{Bool, true, false, true≢false}
-use mathlib.Core.List.{List, ◌∷◌}
+use mathlib.Core.Bool.{Bool, true, false}
 use borrow.Author.Tests.{eqb-true, eqb-false, ltb-false, leb-false}
 use lib.Dec.{eqb}
 use Rattle.signer.specs.FromOne.{is_within}
@@ -30,10 +30,10 @@ use Rattle.vote.proofs.BoardLaws.{Convinced}
 use Rattle.bench.specs.Events.{proposing, turning, delivering, announcing, suspecting, trusting, signing}
 use Rattle.bench.specs.Benches.{is_sound, board_at, signer_at, heard_by, signed_by}
 use Rattle.bench.specs.Answers.{is_accepted}
-use Rattle.bench.specs.Table.{kind_row, boards_row, wrong_id, wrong_value, fields_row, mark_row, start_row, end_row, signed_row, last_row, delivered_row, ballots_row, refuses, must_wait, turn_row, first_of, check_of}
+use Rattle.bench.specs.Table.{kind_row, boards_row, wrong_id, wrong_value, fields_row, mark_row, start_row, end_row, signed_row, last_row, delivered_row, ballots_row, refuses, must_wait, turn_row, table_of, check_of}
 use Rattle.bench.specs.Effects.{with_board_at, with_signature, after_turn, after_hearing, brought, effect_of}
-use Rattle.bench.proofs.AnswerLaws.{refused-so}
-use Rattle.bench.proofs.TableLaws.{delivers-other, boards-a, boards-b, first-takes, first-skips}
+use Rattle.bench.proofs.AnswerLaws.{accepted-ok}
+use Rattle.bench.proofs.TableLaws.{place, applies, none-applies, delivers-other, boards-a, boards-b}
 use Rattle.bench.proofs.EffectLaws.{
   effect-proposing,
   effect-turning,
@@ -46,14 +46,7 @@ use Rattle.bench.proofs.EffectLaws.{
 use Rattle.bench.specs.declared.bench.Bench.{Bench}
 use Rattle.bench.specs.declared.event.Event.{Event}
 use Rattle.bench.specs.declared.answer.Refusal.{Refusal}
-
--- an event that is accepted passed a row, and is accepted by the rows after it
-first-passed : (row : Bool × Refusal) (rows : List (Bool × Refusal)) → is_accepted (first_of (row ∷ rows)) ≡ true → (row.0 ≡ false) × (is_accepted (first_of rows) ≡ true)
-first-passed row rows t = go row.0 refl
-  where
-    go : (b : Bool) → row.0 ≡ b → (row.0 ≡ false) × (is_accepted (first_of rows) ≡ true)
-    go true e = absurd (true≢false (sym t ∙ ap is_accepted (first-takes row.0 row.1 rows e) ∙ refused-so row.1))
-    go false e = (e, sym (ap is_accepted (first-skips row.0 row.1 rows e)) ∙ t)
+use Rattle.bench.specs.declared.answer.Refusal.TheVariants.{NoKind, NoBoard, WrongField, WrongMark, WrongStart, AtEnd, NotSigned, NotAbove, AlreadyDelivered, FewBallots, MustWait}
 
 -- e passed the table: of its rows, those that something later needs (14 and 20 are not among them)
 pub record Passed (L : Limits) (c : Bench) (e : Event) : Type 0 where
@@ -70,33 +63,22 @@ pub record Passed (L : Limits) (c : Bench) (e : Event) : Type 0 where
   pub turn : turn_row L c e ≡ false
 
 pub accepted-passed : (L : Limits) (c : Bench) (e : Event) → is_accepted (check_of L c e) ≡ true → Passed L c e
-unfolding check_of
+unfolding check_of applies place
 accepted-passed L c e t =
-    let p1 = first-passed _ _ t in
-    let p2 = first-passed _ _ p1.1 in
-    let p3 = first-passed _ _ p2.1 in
-    let p4 = first-passed _ _ p3.1 in
-    let p5 = first-passed _ _ p4.1 in
-    let p6 = first-passed _ _ p5.1 in
-    let p7 = first-passed _ _ p6.1 in
-    let p8 = first-passed _ _ p7.1 in
-    let p9 = first-passed _ _ p8.1 in
-    let p10 = first-passed _ _ p9.1 in
-    let p11 = first-passed _ _ p10.1 in
-    let p12 = first-passed _ _ p11.1 in
-    let p13 = first-passed _ _ p12.1 in
+    let x = accepted-ok (check_of L c e) t in
+    let passed : (r : Refusal) → applies r (table_of L c e) ≡ false = λ r. none-applies r (table_of L c e) x.0 x.1 in
     record {
-      kind = p1.0;
-      boards = p2.0;
-      fields = p3.0;
-      mark = p4.0;
-      start = p6.0;
-      end = p7.0;
-      signed = p8.0;
-      last = p9.0;
-      delivered = p10.0;
-      ballots = p12.0;
-      turn = p13.0;
+      kind = passed NoKind;
+      boards = passed NoBoard;
+      fields = passed WrongField;
+      mark = passed WrongMark;
+      start = passed WrongStart;
+      end = passed AtEnd;
+      signed = passed NotSigned;
+      last = passed NotAbove;
+      delivered = passed AlreadyDelivered;
+      ballots = passed FewBallots;
+      turn = passed MustWait;
     }
 
 -- an event has one kind
@@ -114,15 +96,26 @@ pub data Kind (k : ℕ) : Type 0 where
   is-signing : k ≡ signing → Kind k
 
 kind-cases : (k : ℕ) → 1 ≤ k → k ≤ signing → Kind k
-kind-cases zero l h = absurd (omega (arith, l))
-kind-cases (suc zero) l h = is-proposing refl
-kind-cases (suc (suc zero)) l h = is-turning refl
-kind-cases (suc (suc (suc zero))) l h = is-delivering refl
-kind-cases (suc (suc (suc (suc zero)))) l h = is-announcing refl
-kind-cases (suc (suc (suc (suc (suc zero))))) l h = is-suspecting refl
-kind-cases (suc (suc (suc (suc (suc (suc zero)))))) l h = is-trusting refl
-kind-cases (suc (suc (suc (suc (suc (suc (suc zero))))))) l h = is-signing refl
-kind-cases (suc (suc (suc (suc (suc (suc (suc (suc k)))))))) l h = absurd (omega (arith, h))
+kind-cases k l h =
+    go
+    (ℕ_discrete k proposing)
+    (ℕ_discrete k turning)
+    (ℕ_discrete k delivering)
+    (ℕ_discrete k announcing)
+    (ℕ_discrete k suspecting)
+    (ℕ_discrete k trusting)
+    (ℕ_discrete k signing)
+  where
+    go : Dec (k ≡ proposing) → Dec (k ≡ turning) → Dec (k ≡ delivering) → Dec (k ≡ announcing) → Dec (k ≡ suspecting)
+        → Dec (k ≡ trusting) → Dec (k ≡ signing) → Kind k
+    go (yes i) _ _ _ _ _ _ = is-proposing i
+    go (no a) (yes i) _ _ _ _ _ = is-turning i
+    go (no a) (no b) (yes i) _ _ _ _ = is-delivering i
+    go (no a) (no b) (no d) (yes i) _ _ _ = is-announcing i
+    go (no a) (no b) (no d) (no f) (yes i) _ _ = is-suspecting i
+    go (no a) (no b) (no d) (no f) (no g) (yes i) _ = is-trusting i
+    go (no a) (no b) (no d) (no f) (no g) (no m) (yes i) = is-signing i
+    go (no a) (no b) (no d) (no f) (no g) (no m) (no n) = absurd (omega (arith, l, h, a, b, d, f, g, m, n))
 
 module _ (L : Limits) (c : Bench) (e : Event) where
   abbrev me : Board

@@ -1,48 +1,35 @@
 -- What is claimed of the call for a fresh bench. Assumes nothing.
-use Prim.Native.Nat.{ℕ, zero, suc, ◌≤◌, ◌<◌}
+use Prim.Native.Nat.{ℕ, ◌≤◌, ◌<◌}
 use native.Mathlib.Omega.{arith}
 use borrow.Author.Tests.{eqb-true, eq-eqb, leb-true, leb-false}
 use mathlib.Core.Path.{◌≡◌, refl, sym, ap, subst⁻¹, ◌∙◌}
-use mathlib.Core.Bool.{Bool, true, false, true≢false}
+use mathlib.Core.Bool.{true, false, true≢false}
 use mathlib.Core.List.{List, [], ◌∷◌}
 use mathlib.Core.Logic.{◌⊎◌, inl, inr, ◌↔◌}
 use lib.Dec.{eqb}
 use Rattle.std.specs.Prelude.{Result, Ok, Err}
-use Rattle.signer.specs.FromOne.{is_within, nth}
-use Rattle.signer.proofs.FromOneLaws.{within_low, within-high, within_in}
-use Rattle.delivery.specs.Tests.{◌and◌, ◌or◌}
+use Rattle.signer.specs.FromOne.{nth}
+use Rattle.signer.proofs.FromOneLaws.{nth-index, within_low, within-high, within_in}
 use Rattle.delivery.specs.Counting.{every_in}
 use Rattle.delivery.specs.Limits.{limits}
 use Rattle.delivery.specs.Bus.{is_board}
 use Rattle.delivery.specs.Sets.{in_set, set_of, with_board}
 use Rattle.delivery.proofs.TestLaws.{decided}
-use Rattle.delivery.proofs.CountLaws.{every-reads}
+use Rattle.delivery.proofs.CountLaws.{every-reads, every-fails}
 use Rattle.delivery.proofs.SetLaws.{set-cong, in-set_of-within, in-set_of-passes}
 use Rattle.bench.specs.Setups.{is_mark_at, is_marked_sound, setup_by, fresh_answer, bench_of, fresh_bench, fresh_of}
 use Rattle.bench.specs.Answers.{setup_number, fresh_number}
-use Rattle.bench.specs.Making.{CanBe, mark, Making}
+use Rattle.bench.specs.Making.{IsBusSize, mark, Making}
 use Rattle.bench.specs.declared.answer.SetupFault.{SetupFault}
 use Rattle.bench.specs.declared.answer.SetupFault.TheVariants.{NoBus, NoMark}
 use Rattle.bench.specs.declared.bench.Bench.{Bench}
-use Rattle.bench.proofs.SetupLaws.{in_within}
-
--- where not all pass, one fails
-fails-one : (n : ℕ) (p : ℕ → Bool) → every_in n p ≡ false → (k : ℕ) × (1 ≤ k) × (k ≤ n) × (p k ≡ false)
-unfolding every_in ◌and◌
-fails-one zero p h = absurd (true≢false h)
-fails-one (suc n) p h = go (p (suc n)) refl h (fails-one n p)
-  where
-    go : (b : Bool) → p (suc n) ≡ b → (b and every_in n p) ≡ false
-        → (every_in n p ≡ false → (k : ℕ) × (1 ≤ k) × (k ≤ n) × (p k ≡ false))
-        → (k : ℕ) × (1 ≤ k) × (k ≤ suc n) × (p k ≡ false)
-    go false e g ih = (suc n, omega arith, omega arith, e)
-    go true e g ih = let x = ih g in (x.0, x.1, omega (arith, x.2), x.3)
+use Rattle.bench.proofs.SetupLaws.{in_within, all, alone-set}
 
 -- how the call goes
 data Course (n : ℕ) (marks : List ℕ) : Type 0 where
-  cannot-be : (CanBe n → ⊥) → fresh_answer limits n marks ≡ Err NoBus → Course n marks
-  ill-marked : CanBe n → ((k : ℕ) × (1 ≤ k) × (k ≤ n) × (1 < mark marks k)) → fresh_answer limits n marks ≡ Err NoMark → Course n marks
-  goes-well : CanBe n → ((k : ℕ) → 1 ≤ k → k ≤ n → mark marks k ≤ 1) → fresh_answer limits n marks ≡ Ok tt → Course n marks
+  cannot-be : (IsBusSize n → ⊥) → fresh_answer limits n marks ≡ Err NoBus → Course n marks
+  ill-marked : IsBusSize n → ((k : ℕ) × (1 ≤ k) × (k ≤ n) × (1 < mark marks k)) → fresh_answer limits n marks ≡ Err NoMark → Course n marks
+  goes-well : IsBusSize n → ((k : ℕ) → 1 ≤ k → k ≤ n → mark marks k ≤ 1) → fresh_answer limits n marks ≡ Ok tt → Course n marks
 
 module _ (n : ℕ) (marks : List ℕ) where
   abbrev A : Result (Unit {0}) SetupFault → Type 0
@@ -56,7 +43,7 @@ module _ (n : ℕ) (marks : List ℕ) where
           → (every_in n (is_mark_at marks) ≡ true) ⊎ (every_in n (is_mark_at marks) ≡ false) → Course n marks
       go (inr f) d = cannot-be (λ x. true≢false (sym (within_in limits.boards n x.0 x.1) ∙ f)) (rw f)
       go (inl t) (inr f) =
-          let x = fails-one n (is_mark_at marks) f in
+          let x = every-fails n (is_mark_at marks) f in
           ill-marked
           (within_low limits.boards n t, within-high limits.boards n t)
           (x.0, x.1, x.2, leb-false (nth marks x.0 0) 1 x.3)
@@ -82,18 +69,18 @@ module _ (n : ℕ) (marks : List ℕ) where
   unfolding number fresh_of fresh_number setup_number
   is-3 e = ap fresh_number e
 
-  no-bus : (number ≡ 2) ↔ (CanBe n → ⊥)
+  no-bus : (number ≡ 2) ↔ (IsBusSize n → ⊥)
   no-bus = go course
     where
-      go : Course n marks → (number ≡ 2) ↔ (CanBe n → ⊥)
+      go : Course n marks → (number ≡ 2) ↔ (IsBusSize n → ⊥)
       go (cannot-be f e) = (λ i. f, λ g. is-2 e)
       go (ill-marked x k e) = (λ i. absurd (omega (arith, i, is-3 e)), λ g. absurd (g x))
       go (goes-well x m e) = (λ i. absurd (omega (arith, i, is-0 e)), λ g. absurd (g x))
 
-  no-mark : (number ≡ 3) ↔ (CanBe n × ((k : ℕ) × (1 ≤ k) × (k ≤ n) × (1 < mark marks k)))
+  no-mark : (number ≡ 3) ↔ (IsBusSize n × ((k : ℕ) × (1 ≤ k) × (k ≤ n) × (1 < mark marks k)))
   no-mark = go course
     where
-      go : Course n marks → (number ≡ 3) ↔ (CanBe n × ((k : ℕ) × (1 ≤ k) × (k ≤ n) × (1 < mark marks k)))
+      go : Course n marks → (number ≡ 3) ↔ (IsBusSize n × ((k : ℕ) × (1 ≤ k) × (k ≤ n) × (1 < mark marks k)))
       go (cannot-be f e) = (λ i. absurd (omega (arith, i, is-2 e)), λ y. absurd (f y.0))
       go (ill-marked x k e) = (λ i. (x, k), λ y. is-3 e)
       go (goes-well x m e) = (
@@ -145,17 +132,34 @@ module _ (n : ℕ) (marks : List ℕ) where
                 (sound-where k),
           )
 
-  alone-is : (f : SetupFault) → A (Err f) → (fresh_of limits n marks).bench ≡ (fresh_of limits 1 (0 ∷ [])).bench
-  unfolding fresh_of fresh_bench fresh_answer setup_by is_within every_in is_mark_at is_marked_sound nth set_of in_set with_board ◌and◌ ◌or◌
-  alone-is f e = bench-by (Err f) e
+-- one board, marked sound
+mark-sole : (k : ℕ) → 1 ≤ k → k ≤ 1 → mark (0 ∷ []) k ≡ 0
+mark-sole k l u = let e : k ≡ 1 = omega arith in ap (mark (0 ∷ [])) e ∙ nth-index (0 ∷ []) 1 0 (omega arith)
 
-  alone : (number ≡ 0 → ⊥) → (fresh_of limits n marks).bench ≡ (fresh_of limits 1 (0 ∷ [])).bench
-  alone g = go course
+sole : fresh_answer limits 1 (0 ∷ []) ≡ Ok tt
+sole = go (course 1 (0 ∷ []))
+  where
+    go : Course 1 (0 ∷ []) → fresh_answer limits 1 (0 ∷ []) ≡ Ok tt
+    go (cannot-be f e) = absurd (f (omega arith, omega arith))
+    go (ill-marked x k e) = absurd (omega (arith, k.3, mark-sole k.0 k.1 k.2))
+    go (goes-well x m e) = e
+
+sole-set : with_board 0 1 ≡ set_of 1 (is_marked_sound (0 ∷ []))
+unfolding is_marked_sound
+sole-set = alone-set ∙ set-cong 1 all (is_marked_sound (0 ∷ [])) (λ k l u. sym (eq-eqb _ _ (mark-sole k l u)))
+
+module _ (n : ℕ) (marks : List ℕ) where
+  alone-is : (f : SetupFault) → fresh_answer limits n marks ≡ Err f → (fresh_of limits n marks).bench ≡ (fresh_of limits 1 (0 ∷ [])).bench
+  unfolding setup_by
+  alone-is f e = bench-by n marks (Err f) e ∙ ap (bench_of limits 1) sole-set ∙ sym (bench-by 1 (0 ∷ []) (Ok tt) sole)
+
+  alone : (number n marks ≡ 0 → ⊥) → (fresh_of limits n marks).bench ≡ (fresh_of limits 1 (0 ∷ [])).bench
+  alone g = go (course n marks)
     where
       go : Course n marks → (fresh_of limits n marks).bench ≡ (fresh_of limits 1 (0 ∷ [])).bench
       go (cannot-be f e) = alone-is NoBus e
       go (ill-marked x k e) = alone-is NoMark e
-      go (goes-well x m e) = absurd (g (is-0 e))
+      go (goes-well x m e) = absurd (g (is-0 n marks e))
 
 -- marks that are the same up to the n-th
 module _ (n : ℕ) (marks rest : List ℕ) (same : (k : ℕ) → 1 ≤ k → k ≤ n → mark marks k ≡ mark rest k) where

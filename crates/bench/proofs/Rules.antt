@@ -1,8 +1,7 @@
 -- For each function, the laws that its proof goes by.
 use Rattle.bench.proofs.AnswerLaws.{step-answer, step-done, step-kept}
 use Rattle.bench.proofs.AppliesLaws.{answering}
-use Rattle.bench.proofs.Demands.{agreeing}
-use Rattle.bench.proofs.MakingLaws.{making}
+use Rattle.bench.proofs.ExampleLaws.{examples}
 use Rattle.bench.proofs.RunLaws.{after_next, after_none, answers-none, answers_next, history-written, length-answers, length-events, length-written, played-fits, played-room, sets-written}
 use Rattle.bench.proofs.SetupLaws.{limits-ground, marks-none, marks-next, marks-fail}
 use Rattle.bench.proofs.TableLaws.{kind-passes, kind-stops, check-event, check-kind, check-state, check-turn, kind-known, not_same}
@@ -42,8 +41,6 @@ pub ruleset rules_fresh_sound_of = (set-none, set-take, set-leave, marks-none, m
 pub ruleset rules_turn_numbers = (not_started-is, ended-is, waiting-is)
 
 -- what src/claims claims
-pub ruleset fresh_claims = (making)
-
 pub ruleset event_claims = (answering)
 
-pub ruleset list_claims = (agreeing)
+pub ruleset example_claims = (examples)

@@ -49,10 +49,10 @@ in_within n p k t =
     (λ f. absurd (true≢false (sym t ∙ in-set_of-outside n p k (within-out n k f))))
     (decided (is_within n k))
 
-abbrev all : ℕ → Bool
+abbrev pub all : ℕ → Bool
 all k = true
 
-alone-set : with_board 0 1 ≡ set_of 1 all
+pub alone-set : with_board 0 1 ≡ set_of 1 all
 alone-set =
     ap (λ (m : ℕ). with_board m 1) (sym (set-none 0 all (λ k l h. absurd (omega arith))))
     ∙ with-next 0 all (omega arith) refl

@@ -9,11 +9,11 @@ use native.Mathlib.Omega.{arith}
 use Rattle.std.proofs.lemmas.Bool.Decides.{nat_tests}
 use borrow.Author.Tests.{eq-eqb}
 use Rattle.signer.specs.FromOne.{is_within}
-use Rattle.signer.proofs.ConditionalLaws.{if-true, if-false}
+use Rattle.signer.proofs.ConditionalLaws.{if-false, if-elim}
 use Rattle.delivery.specs.Tests.{◌or◌, neg}
-use Rattle.delivery.proofs.TestLaws.{and-under, or_left, or-no-left, or-false-left, or-false-right, neg-no, neg-in, neg-false, fails}
+use Rattle.delivery.proofs.TestLaws.{and-under, or_left, or-false-left, or-false-right, neg-no, neg-in, neg-false, fails}
 use Rattle.signer.proofs.FromOneLaws.{within_low, within-high, within_in}
-use Rattle.bench.specs.Events.{turning, delivering, announcing, suspecting, trusting, signing, kind_number, kind_of, uses_other, uses_id}
+use Rattle.bench.specs.Events.{turning, delivering, signing, kind_number, kind_of, uses_other}
 use Rattle.bench.specs.Table.{kind_row, boards_row, start_row, end_row, first_of, event_rows, state_rows, turn_rows, check_of}
 use Rattle.bench.specs.declared.event.Kind.{Kind}
 use Rattle.bench.specs.declared.event.Kind.TheVariants.{Propose, Turn, Deliver, Announce, Suspect, Trust, Sign}
@@ -24,7 +24,21 @@ use Rattle.bench.specs.declared.bench.Bench.{Bench}
 use Rattle.bench.specs.declared.event.Event.{Event}
 use Rattle.std.specs.Prelude.{Result, Ok, Err, if◌then◌else◌}
 use Rattle.bench.specs.declared.answer.Refusal.{Refusal}
-use Rattle.bench.specs.declared.answer.Refusal.TheVariants.{NoKind}
+use Rattle.bench.specs.declared.answer.Refusal.TheVariants.{
+  NoKind,
+  NoBoard,
+  WrongField,
+  WrongMark,
+  SameBoard,
+  WrongStart,
+  AtEnd,
+  NotSigned,
+  NotAbove,
+  AlreadyDelivered,
+  NotDecided,
+  FewBallots,
+  MustWait,
+}
 use Rattle.delivery.specs.Limits.{Limits}
 
 -- what the code negates is the word "not" of the same test
@@ -33,21 +47,10 @@ unfolding neg
 not_same true b h = ap neg h
 not_same false b h = ap neg h
 
--- a kind with another board that is no delivery is an announcement, suspicion or trust
-pub other-rest : (k : ℕ) → eqb k delivering ≡ false
-    → uses_other k ≡ (eqb k announcing or eqb k suspecting or eqb k trusting)
-unfolding uses_other
-other-rest k h = or-no-left _ _ h
-
--- a kind with an identifier that is no announcement is a delivery or a signature
-pub id-rest : (k : ℕ) → eqb k announcing ≡ false → uses_id k ≡ (eqb k delivering or eqb k signing)
-unfolding uses_id
-id-rest k h = ap (λ (b : Bool). eqb k delivering or b) (or-no-left _ _ h)
-
 -- a delivery names another board
 pub delivers-other : (k : ℕ) → k ≡ delivering → uses_other k ≡ true
-unfolding uses_other
-delivers-other k h = or_left _ _ (eq-eqb k delivering h)
+unfolding uses_other ◌or◌
+delivers-other k h = ap uses_other h
 
 -- where row 11 does not apply, a is a board of the bench, and so is b if it is used
 module _ (c : Bench) (e : Event) (h : boards_row c e ≡ false) where
@@ -59,13 +62,7 @@ module _ (c : Bench) (e : Event) (h : boards_row c e ≡ false) where
   unfolding boards_row
   boards-b k = neg-false _ (and-under _ _ k (or-false-right _ _ h))
 
--- a row that applies is the first
-pub first-takes : (b : Bool) (r : Refusal) (rows : List (Bool × Refusal))
-    → b ≡ true → first_of ((b, r) ∷ rows) ≡ Err r
-unfolding first_of
-first-takes b r rows h = if-true _ _ _ h
-
--- and one that does not is passed over
+-- a row that does not apply is passed over
 pub first-skips : (b : Bool) (r : Refusal) (rows : List (Bool × Refusal))
     → b ≡ false → first_of ((b, r) ∷ rows) ≡ first_of rows
 unfolding first_of
@@ -85,24 +82,52 @@ rows-pass [] ys u h = refl
 rows-pass ((true, a) ∷ xs) ys u h = grind (arith, h)
 rows-pass ((false, a) ∷ xs) ys u h = rows-pass xs ys u h
 
--- a board whose turn no row before row 22 refuses is voting
+-- where none of some rows applies, a row among them does not, wherever it stands: it is found by its refusal, of which this
+-- tells one from another
 rows-left : (row : Bool × Refusal) (rows : List (Bool × Refusal)) (u : Unit {0}) → first_of (row ∷ rows) ≡ Ok u
     → (row.0 ≡ false) × (first_of rows ≡ Ok u)
 unfolding first_of
 rows-left (true, a) rows u h = grind (arith, h)
 rows-left (false, a) rows u h = (refl, h)
 
+unfoldable pub place : Refusal → ℕ
+place NoKind = 0
+place NoBoard = 1
+place WrongField = 2
+place WrongMark = 3
+place SameBoard = 4
+place WrongStart = 5
+place AtEnd = 6
+place NotSigned = 8
+place NotAbove = 9
+place AlreadyDelivered = 10
+place NotDecided = 11
+place FewBallots = 12
+place MustWait = 13
+
+unfoldable pub applies : Refusal → List (Bool × Refusal) → Bool
+applies r [] = false
+applies r (row ∷ rows) = if eqb (place row.1) (place r) then row.0 else applies r rows
+
+pub none-applies : (r : Refusal) (rows : List (Bool × Refusal)) (u : Unit {0}) → first_of rows ≡ Ok u → applies r rows ≡ false
+unfolding applies
+none-applies r [] u h = refl
+none-applies r (row ∷ rows) u h =
+    let p = rows-left row rows u h in
+    if-elim (λ (b : Bool). b ≡ false) (eqb (place row.1) (place r)) row.0 (applies r rows) (λ _. p.0) (λ _. none-applies r rows u p.1)
+
+-- a board whose turn no row before row 22 refuses is voting
 pub state-voting : (L : Limits) (c : Bench) (e : Event) (u : Unit {0}) → first_of (state_rows L c e) ≡ Ok u → e.kind ≡ turning
     → (board_at L c e.a).status ≡ Voting
-unfolding start_row end_row
+unfolding start_row end_row applies place
 state-voting L c e u h k =
-    let start = rows-left _ _ u h in
-    let end = rows-left _ _ u start.1 in
+    let start : start_row L c e ≡ false = none-applies WrongStart (state_rows L c e) u h in
+    let end : end_row L c e ≡ false = none-applies AtEnd (state_rows L c e) u h in
     let is : eqb e.kind turning ≡ true = eq-eqb e.kind turning k in
     going-voting
     (board_at L c e.a).status
-    (neg-false _ (and-under _ _ (or_left _ _ is) (or-false-right _ _ start.0)))
-    (and-under _ _ is (or-false-left _ _ end.0))
+    (neg-false _ (and-under _ _ (or_left _ _ is) (or-false-right _ _ start)))
+    (and-under _ _ is (or-false-left _ _ end))
 
 -- a number from 1 to 7 is that of its kind, and no other has one
 pub kind-known : (n : ℕ) (k : Kind) → kind_of n ≡ Ok k → kind_number k ≡ n

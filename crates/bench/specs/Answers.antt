@@ -1,5 +1,5 @@
 -- Document 01, "Where an event or file stops": the answers and their numbers in its table.
-use Rattle.std.specs.Prelude.{ℕ, Bool, Result, eqb}
+use Rattle.std.specs.Prelude.{ℕ, Bool, true, false, Result, Ok, Err}
 use Rattle.vote.specs.Turns.{turn_number, numbered}
 use Rattle.vote.specs.declared.turn.Refusal.TheVariants.{NotStarted, Ended, Waiting}
 use Rattle.bench.specs.declared.answer.Refusal.{Refusal}
@@ -48,6 +48,7 @@ refusal_number MustWait = turn_number Waiting
 unfoldable pub answer_number : Result (Unit {0}) Refusal → ℕ
 answer_number a = numbered refusal_number a
 
--- an event is accepted if it is answered 0
+-- an event is accepted if no row refuses it
 unfoldable pub is_accepted : Result (Unit {0}) Refusal → Bool
-is_accepted a = eqb (answer_number a) 0
+is_accepted (Ok _) = true
+is_accepted (Err _) = false

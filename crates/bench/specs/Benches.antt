@@ -1,6 +1,6 @@
 -- Document 01, "Events": what a bench holds. It has n boards, the set of those that are sound, for each a signer, and the
 -- copies that are owed.
-use Rattle.std.specs.Prelude.{ℕ, ◌≡◌, Bool, Option, eqb}
+use Rattle.std.specs.Prelude.{ℕ, Bool, Option, eqb}
 use Rattle.signer.specs.FromOne.{nth}
 use Rattle.signer.specs.Log.{entry_at}
 use Rattle.signer.specs.Signer.{fresh_signer}
@@ -12,7 +12,6 @@ use Rattle.delivery.specs.Delivered.{Store, heard}
 use Rattle.vote.specs.Boards.{fresh_board}
 use Rattle.vote.specs.Rule.{rule}
 use Rattle.vote.specs.Turns.{said_in}
-use Rattle.vote.specs.declared.board.Status.TheVariants.{Voting}
 use Rattle.vote.specs.declared.statement.Statement.{Statement}
 use Rattle.vote.specs.declared.rule.Move.{Move}
 use Rattle.vote.specs.declared.board.Board.{Board}
@@ -28,10 +27,7 @@ board_at L c k = nth c.boards k (fresh_board L)
 unfoldable pub signer_at : Limits → Bench → ℕ → Signer
 signer_at L c k = nth c.signers k (fresh_signer L.identifiers)
 
--- board k is voting; what the rule of a turn then has it do, and what it says
-abbrev pub IsVoting : Limits → Bench → ℕ → Type 0
-IsVoting L c k = (board_at L c k).status ≡ Voting
-
+-- what the rule of a turn has board k do where it is voting, and what it then says
 abbrev pub move_at : Limits → Bench → ℕ → Move
 move_at L c k = rule L c.n k (board_at L c k).position (heard L (board_at L c k).delivered)
 

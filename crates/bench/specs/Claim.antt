@@ -1,4 +1,5 @@
--- Document 01, "Events": agreement, which is demand 3 as a whole, as one claim about a history.
+-- Agreement: what is claimed of a history of events and answers, and of the bench after it. It is one claim about the whole
+-- list. `Bench::play` promises it of each list that it plays, and `every_list` of every list.
 use Rattle.std.specs.Prelude.{ℕ, ◌≡◌, true, false, List, ◌∷◌, ◌++◌, ◌⊎◌, ◌↔◌, Some}
 use Rattle.signer.specs.FromOne.{is_within}
 use Rattle.signer.specs.Log.{entry_of}

@@ -1,4 +1,4 @@
--- What is claimed of every list of events, and of the call for a fresh bench; src/claims shows it.
+-- What is claimed of every list of events, which the open call `every_list` promises.
 use Rattle.std.specs.Prelude.{ℕ, List, length}
 use Rattle.delivery.specs.Limits.{limits}
 use Rattle.bench.specs.Runs.{bench_after, answers_from, events_played}

@@ -9,7 +9,6 @@ use Rattle.vote.specs.Boards.{propose, deliver_to, suspect, trust}
 use Rattle.vote.specs.Turns.{turn}
 use Rattle.vote.specs.Announcements.{announce}
 use Rattle.vote.specs.declared.board.Board.{Board}
-use Rattle.vote.specs.declared.board.Decision.{Decision}
 use Rattle.vote.specs.declared.statement.Statement.{Statement}
 use Rattle.bench.specs.Events.{proposing, turning, delivering, announcing, suspecting, trusting}
 use Rattle.bench.specs.Benches.{board_at, signer_at, holders}
@@ -62,10 +61,6 @@ after_hearing L c k s =
 -- the statement that a delivery brings
 abbrev pub brought : Event → Statement
 brought e = record { speaker = e.b; id = record { 0 = e.id }; value = e.value }
-
--- the decision that an announcement tells of
-abbrev pub announced : Event → Decision
-announced e = record { round = record { 0 = e.id }; value = e.value }
 
 -- what an accepted event does, by its kind; the last is the signature of a faulty board
 unfoldable pub effect_of : Limits → Bench → Event → Bench

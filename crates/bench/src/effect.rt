@@ -2,11 +2,12 @@ ghost use Rattle.std.specs.Prelude.{◌≡◌, Ok, Err, OnOk, OnErr, if◌then�
 ghost use Rattle.std.specs.Fn.{FnOnceReturnsAtMut};
 ghost use Rattle.delivery.specs.Limits.{limits};
 ghost use Rattle.vote.specs.Turns.{take};
-ghost use Rattle.bench.specs.Benches.{board_at, IsVoting};
+ghost use Rattle.bench.specs.Benches.{board_at};
 ghost use Rattle.bench.specs.Events.{turning};
 ghost use Rattle.bench.specs.declared.answer.Refusal.TheVariants.{MustWait};
 ghost use Rattle.bench.specs.Table.{must_wait, turn_rows, first_of};
-ghost use Rattle.bench.specs.Effects.{with_board_at, with_signature, after_saying, after_turn, brought, announced, after_hearing, effect_of, step_of};
+ghost use Rattle.bench.specs.Effects.{with_board_at, with_signature, after_saying, after_turn, brought, after_hearing, effect_of, step_of};
+ghost use Rattle.bench.specs.Private.{IsVoting, announced};
 
 use crate::answer::Refusal;
 use crate::bench::Bench;

@@ -72,6 +72,14 @@ impl TryFrom<u8> for Kind {
 }
 
 impl Kind {
+    /// Its number, as it stands in an event's first byte: 1 to 7.
+    #[tactic(auto, unfolding(crate::specs::Events::kind_number))]
+    pub fn number(self) -> u8
+        ensures { result ≡ kind_number self }
+    {
+        self as u8
+    }
+
     // Whether it names a second board.
     #[tactic(auto, using(crate::proofs::Rules::rules_tests), unfolding(crate::specs::Events::kind_number, crate::specs::Events::uses_other))]
     pub(crate) fn uses_other(self) -> bool

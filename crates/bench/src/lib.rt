@@ -15,7 +15,7 @@ mod table;
 
 pub use answer::{Refusal, SetupFault};
 pub use bench::Bench;
-pub use claims::{every_event, every_fresh, every_list};
+pub use claims::{every_event, every_fresh, every_list, worked_examples};
 pub use effect::Outcome;
 pub use event::{Event, Kind};
 pub use fresh::Fresh;

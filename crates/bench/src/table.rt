@@ -4,7 +4,8 @@ ghost use Rattle.delivery.specs.Limits.{limits};
 ghost use Rattle.vote.specs.Boards.{fresh_board};
 ghost use Rattle.vote.specs.declared.board.Status.TheVariants.{Voting};
 ghost use Rattle.bench.specs.Events.{turning};
-ghost use Rattle.bench.specs.Benches.{IsVoting, move_at, said_at};
+ghost use Rattle.bench.specs.Benches.{move_at, said_at};
+ghost use Rattle.bench.specs.Private.{IsVoting};
 ghost use Rattle.bench.specs.declared.answer.Refusal.TheVariants.{MustWait};
 ghost use Rattle.bench.specs.Table.{boards_row, wrong_other, wrong_id, wrong_value, fields_row, mark_row, pair_row, start_row, end_row, signed_row, last_row, delivered_row, announcer_row, ballots_row, refuses, must_wait, first_of, event_rows, state_rows, turn_rows, check_of};
 
@@ -221,17 +222,5 @@ impl Bench {
         self.check_event(&known)?;
         self.check_state(&known)?;
         Ok(known)
-    }
-
-    // The first row of the table that applies.
-    #[tactic(auto, using(crate::proofs::Rules::rules_tests), unfolding(crate::specs::Table::turn_row, crate::specs::Table::first_of, crate::specs::Events::kind_number))]
-    pub fn check(&self, e: Event) -> Result<(), Refusal>
-        ensures { result ≡ check_of limits self.now e }
-    {
-        let known = self.check_rows(e)?;
-        if known.kind == Kind::Turn {
-            self.next_move(known.a)?;
-        }
-        Ok(())
     }
 }

@@ -187,18 +187,18 @@ impl Step {
     // Its event; a field that it does not have is 0. The kind is a byte there, since the field is open (a rule of the project).
     fn event(self) -> Event {
         let (kind, a, b, id, value) = match self {
-            Step::Propose(k, value) => (Kind::Propose as u8, k, 0, 0, value),
-            Step::Turn(k) => (Kind::Turn as u8, k, 0, 0, 0),
-            Step::Deliver(k, speaker, id, value) => (Kind::Deliver as u8, k, speaker, id, value),
+            Step::Propose(k, value) => (Kind::Propose.number(), k, 0, 0, value),
+            Step::Turn(k) => (Kind::Turn.number(), k, 0, 0, 0),
+            Step::Deliver(k, speaker, id, value) => (Kind::Deliver.number(), k, speaker, id, value),
             Step::Announce(k, other, round, value) => (
-                Kind::Announce as u8,
+                Kind::Announce.number(),
                 k,
                 other,
                 round,
                 value,
             ),
-            Step::Suspect(k, other) => (Kind::Suspect as u8, k, other, 0, 0),
-            Step::Sign(k, id, value) => (Kind::Sign as u8, k, 0, id, value),
+            Step::Suspect(k, other) => (Kind::Suspect.number(), k, other, 0, 0),
+            Step::Sign(k, id, value) => (Kind::Sign.number(), k, 0, id, value),
             Step::NoKind(k) => (0, k, 0, 0, 0),
         };
         Event {

@@ -1,8 +1,11 @@
 -- Laws of how far a board is. Assumes nothing.
 use Prim.Native.Nat.{ℕ}
-use mathlib.Core.Path.{◌≡◌, refl, sym, ap}
+use borrow.Author.Tests.{eqb-true, eq-eqb}
+use mathlib.Core.Logic.{◌⊎◌, inl, inr}
+use mathlib.Core.Path.{◌≡◌, refl, sym, ap, ◌∙◌}
 use mathlib.Core.Bool.{true, false, true≢false}
-use Rattle.vote.specs.Boards.{is_started, is_decided, is_ended, decision_of}
+use Rattle.delivery.proofs.TestLaws.{and_left, and_right, and_in}
+use Rattle.vote.specs.Boards.{is_started, is_decided, is_ended, has_decided, decision_of}
 use Rattle.vote.specs.Turns.{status_after}
 use Rattle.vote.specs.declared.rule.Move.{Move}
 use Rattle.vote.specs.declared.rule.Move.TheVariants.{Waits, Passes, Opens, Ballots, Decides, Advances, Expires}
@@ -51,6 +54,21 @@ pub decided-decided : (d : Decision) → is_decided (Decided d) ≡ true
 unfolding is_decided
 decided-decided d = refl
 
+-- one that is decided has a decision, and one that has ended is spent or has one
+pub decided-some : (s : Status) → is_decided s ≡ true → (d : Decision) × (s ≡ Decided d)
+unfolding is_decided
+decided-some Idle h = absurd (true≢false (sym h))
+decided-some Voting h = absurd (true≢false (sym h))
+decided-some Spent h = absurd (true≢false (sym h))
+decided-some (Decided d) h = (d, refl)
+
+pub ended-some : (s : Status) → is_ended s ≡ true → (s ≡ Spent) ⊎ ((d : Decision) × (s ≡ Decided d))
+unfolding is_ended
+ended-some Idle h = absurd (true≢false (sym h))
+ended-some Voting h = absurd (true≢false (sym h))
+ended-some Spent h = inl refl
+ended-some (Decided d) h = inr (d, refl)
+
 -- no two of them are the same
 pub voting-spent : Voting ≡ Spent → ⊥
 unfolding is_ended
@@ -82,6 +100,21 @@ decision d (Decided c) = c
 pub decided-one : (d c : Decision) → Decided d ≡ Decided c → d ≡ c
 unfolding decision
 decided-one d c e = ap (decision d) e
+
+-- whether it has decided a value in a round
+pub has-decided : (s : Status) (r v : ℕ) → has_decided s r v ≡ true → s ≡ Decided (decision_of r v)
+unfolding has_decided
+has-decided Idle r v h = absurd (true≢false (sym h))
+has-decided Voting r v h = absurd (true≢false (sym h))
+has-decided Spent r v h = absurd (true≢false (sym h))
+has-decided (Decided d) r v h =
+    let p = eqb-true d.round.0 r (and_left _ _ h) in
+    let q = eqb-true d.value v (and_right _ _ h) in
+    λ i. Decided (record { round = record { 0 = p i }; value = q i })
+
+pub decided-has : (s : Status) (r v : ℕ) → s ≡ Decided (decision_of r v) → has_decided s r v ≡ true
+unfolding has_decided
+decided-has s r v e = ap (λ (x : Status). has_decided x r v) e ∙ and_in _ _ (eq-eqb r r refl) (eq-eqb v v refl)
 
 -- the move that makes a board decide
 pub decides-status : (r v : ℕ) → status_after r (Decides v) ≡ Decided (decision_of r v)

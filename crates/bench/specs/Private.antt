@@ -1,0 +1,16 @@
+-- What private calls alone promise by; whoever believes the open calls need not read it.
+use Rattle.std.specs.Prelude.{ℕ, ◌≡◌}
+use Rattle.delivery.specs.Limits.{Limits}
+use Rattle.vote.specs.declared.board.Decision.{Decision}
+use Rattle.vote.specs.declared.board.Status.TheVariants.{Voting}
+use Rattle.bench.specs.Benches.{board_at}
+use Rattle.bench.specs.declared.bench.Bench.{Bench}
+use Rattle.bench.specs.declared.event.Event.{Event}
+
+-- board k is voting: no row before row 22 refuses its turn
+abbrev pub IsVoting : Limits → Bench → ℕ → Type 0
+IsVoting L c k = (board_at L c k).status ≡ Voting
+
+-- the decision that an announcement tells of
+abbrev pub announced : Event → Decision
+announced e = record { round = record { 0 = e.id }; value = e.value }
