@@ -18,13 +18,14 @@ use Rattle.bench.specs.declared.event.Event.{Event}
 use Rattle.bench.specs.declared.effect.Outcome.{Outcome}
 use Rattle.bench.proofs.RunLaws.{steps-nil, steps-cons, events-none, length-events, events-next}
 use Rattle.schedule.specs.Files.{first_bench}
-use Rattle.schedule.specs.Prints.{PutAt}
+use Rattle.schedule.specs.Private.{PutAt}
 use Rattle.schedule.specs.Readings.{schedule_of}
 use Rattle.schedule.specs.declared.fault.Fault.{Fault}
 use Rattle.schedule.specs.declared.file.Schedule.{Schedule}
 use Rattle.schedule.proofs.PrintLaws.{put_then}
 use Rattle.schedule.proofs.PlayLaws.{FileRead, file-fault, begun, events-read}
-use Rattle.fenderacai.specs.Rows.{row_size, row}
+use Rattle.fenderacai.specs.Rows.{row}
+use Rattle.fenderacai.specs.Private.{row_size}
 use Rattle.fenderacai.specs.Traces.{rows_of, traced_from, traced}
 use Rattle.fenderacai.proofs.RowLaws.{length-row}
 

@@ -21,7 +21,8 @@ use Rattle.delivery.specs.Limits.{limits}
 use Rattle.bench.specs.declared.show.Shown.{Shown}
 use Rattle.bench.proofs.RunLaws.{sets-written}
 use Rattle.schedule.specs.Files.{most_events, fault_number}
-use Rattle.schedule.specs.Prints.{digit, decimal_in, decimal, parts_to, event_line, board_line, refused_line, report_from, buffer_from, PutAt, Puts, event_line_bytes, board_line_bytes, longest_print}
+use Rattle.schedule.specs.Prints.{digit, decimal_in, decimal, parts_to, event_line, board_line, refused_line, report_from, buffer_from, event_line_bytes, board_line_bytes, longest_print}
+use Rattle.schedule.specs.Private.{PutAt, Puts}
 use Rattle.schedule.specs.declared.fault.Fault.{Fault}
 use Rattle.schedule.specs.declared.report.TooShort.{TooShort}
 use Rattle.schedule.proofs.FaultLaws.{fault-row}
