@@ -17,7 +17,7 @@ use Rattle.bench.specs.declared.bench.Bench.{Bench}
 use Rattle.bench.specs.declared.event.Event.{Event}
 use Rattle.bench.specs.declared.effect.Outcome.{Outcome}
 use Rattle.bench.proofs.RunLaws.{steps-nil, steps-cons, events-none, length-events, events-next}
-use Rattle.schedule.specs.Files.{first_bench}
+use Rattle.schedule.specs.Files.{Reading, Contents, first_bench}
 use Rattle.schedule.specs.Private.{PutAt}
 use Rattle.schedule.specs.Readings.{schedule_of}
 use Rattle.schedule.specs.declared.fault.Fault.{Fault}
@@ -27,6 +27,7 @@ use Rattle.schedule.proofs.PlayLaws.{FileRead, file-fault, begun, events-read}
 use Rattle.fenderacai.specs.Rows.{row}
 use Rattle.fenderacai.specs.Private.{row_size}
 use Rattle.fenderacai.specs.Traces.{rows_of, traced_from, traced}
+use Rattle.fenderacai.specs.Claims.{RowWords, TraceWords}
 use Rattle.fenderacai.proofs.RowLaws.{length-row}
 
 abbrev row_of : Outcome → List ℕ
@@ -95,3 +96,15 @@ length-traced bs s h =
     ap length (sym (trace-played limits bs s h))
     ∙ length-append (row limits 0 c) (rows_of limits c es)
     ∙ omega (arith, length-row c 0, length-rows c es, length-events s.count (drop s.start bs))
+
+-- what that is in words
+pub row-words : RowWords
+row-words answer c = length-row c answer
+
+pub trace-words : TraceWords
+unfolding traced_from
+trace-words bs f rest e =
+    let c = first_bench limits f in
+    ap (λ (p : Reading Contents). length (traced_from limits p)) e
+    ∙ length-append (row limits 0 c) (rows_of limits c f.events)
+    ∙ omega (arith, length-row c 0, length-rows c f.events)
