@@ -43,6 +43,15 @@ event-append bs more h =
       get_or-append bs more 0 5 (omega (arith, h)),
     )
 
+-- what comes of no event, and of one and then others
+pub steps-nil : (L : Limits) (c : Bench) → steps L c [] ≡ []
+unfolding steps
+steps-nil L c = refl
+
+pub steps-cons : (L : Limits) (c : Bench) (e : Event) (es : List Event) → steps L c (e ∷ es) ≡ step_of L c e ∷ steps L (step_of L c e).bench es
+unfolding steps
+steps-cons L c e es = refl
+
 -- the bench after no event, and after one and then others
 pub after-nil : (L : Limits) (c : Bench) → after L c [] ≡ c
 unfolding after steps last_of

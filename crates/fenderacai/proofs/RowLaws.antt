@@ -12,9 +12,10 @@ use Rattle.delivery.specs.Owed.{receivers}
 use Rattle.bench.specs.Benches.{board_at, signer_at, signed_by, heard_by}
 use Rattle.bench.specs.declared.bench.Bench.{Bench}
 use Rattle.vote.specs.declared.board.Board.{Board}
-use Rattle.schedule.specs.Prints.{Puts}
+use Rattle.schedule.specs.Private.{Puts}
 use Rattle.schedule.proofs.PrintLaws.{put-length, length-parts}
-use Rattle.fenderacai.specs.Rows.{status_words, position_words, board_words, boards_words, words_to, table_words, delivered_words, row, board_size, table_size, row_size}
+use Rattle.fenderacai.specs.Rows.{status_words, position_words, board_words, boards_words, words_to, table_words, delivered_words, row}
+use Rattle.fenderacai.specs.Private.{board_size, table_size, row_size}
 
 -- how many words a board is
 pub length-board : (b : Board) (last : ℕ) → length (board_words b last) ≡ board_size

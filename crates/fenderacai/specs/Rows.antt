@@ -1,7 +1,6 @@
--- A bench in words: each number that it holds in a place of its own, so that a second model can be compared with it
--- (document 01, condition 3). A row begins with an answer, and then has the bench.
-use Rattle.std.specs.Prelude.{ℕ, ◌+◌, ◌*◌, ◌≤◌, ◌≡◌, List, [], ◌∷◌, ◌++◌}
-use Rattle.signer.specs.declared.identifier.Identifier.{Identifier}
+-- A bench in words: each number that it holds in a place of its own, so that a second model can be compared with it.
+-- A row begins with an answer, and then has the bench.
+use Rattle.std.specs.Prelude.{ℕ, List, [], ◌∷◌, ◌++◌}
 use Rattle.delivery.specs.Limits.{Limits}
 use Rattle.delivery.specs.Owed.{receivers}
 use Rattle.vote.specs.declared.board.Board.{Board}
@@ -60,11 +59,6 @@ boards_words L c = parts_to L.boards (λ k. board_words (board_at L c k) (signer
 abbrev pub delivered_words : Limits → Bench → List ℕ
 delivered_words L c = parts_to L.boards (λ k. table_words L (heard_by L c k))
 
--- What the calls within that write a table ask of what tells its words: whatever it tells of a speaker and an identifier
--- that there can be is f's word of them.
-abbrev pub Tells : Limits → (ℕ → Identifier → ℕ → Type 0) → (ℕ → ℕ → ℕ) → Type 0
-Tells L told f = (s i w : ℕ) → s ≤ L.boards → i ≤ L.identifiers → told s (record { 0 = i }) w → w ≡ f s i
-
 -- A row: the answer, n and the sound boards; each board; the entries that each board's signer signed; for each board
 -- those that it delivered; and the sets of boards to which copies are owed.
 unfoldable pub row : Limits → ℕ → Bench → List ℕ
@@ -74,22 +68,3 @@ row L answer c =
     ++ table_words L (signed_by L c)
     ++ delivered_words L c
     ++ table_words L (receivers L c.owed)
-
--- how many words stand at the front of a row, and how many a status, a position, a board, a table and a row have
-abbrev pub front_size : ℕ
-front_size = 3
-
-abbrev pub status_size : ℕ
-status_size = 3
-
-abbrev pub position_size : ℕ
-position_size = 4
-
-abbrev pub board_size : ℕ
-board_size = status_size + position_size + 1
-
-abbrev pub table_size : Limits → ℕ
-table_size L = L.boards * L.identifiers
-
-abbrev pub row_size : Limits → ℕ
-row_size L = front_size + L.boards * board_size + table_size L + L.boards * table_size L + table_size L

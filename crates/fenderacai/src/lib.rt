@@ -8,9 +8,11 @@ ghost use Rattle.delivery.specs.Limits.{limits};
 ghost use Rattle.schedule.specs.Prints.{printed, buffer_from};
 ghost use Rattle.fenderacai.specs.Traces.{traced};
 
+mod claims;
 mod row;
 mod trace;
 
+pub use claims::every_trace;
 use schedule::Report;
 
 // Writes what is printed of a file to the start of a buffer, and returns its length. The rest of the buffer stays; if it

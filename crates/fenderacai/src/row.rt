@@ -1,7 +1,8 @@
 ghost use Rattle.std.specs.Prelude.{◌+◌, ◌*◌, ◌≤◌, ◌≡◌, ℕ, length};
 ghost use Rattle.delivery.specs.Limits.{limits};
-ghost use Rattle.schedule.specs.Prints.{Puts};
-ghost use Rattle.fenderacai.specs.Rows.{status_number, decision, board_words, boards_words, table_words, delivered_words, Tells, row, board_size, table_size, row_size};
+ghost use Rattle.schedule.specs.Private.{Puts};
+ghost use Rattle.fenderacai.specs.Rows.{status_number, decision, board_words, boards_words, table_words, delivered_words, row};
+ghost use Rattle.fenderacai.specs.Private.{Tells, board_size, table_size, row_size};
 
 use bench::Bench;
 use delivery::{Delivered, Round};

@@ -2,8 +2,9 @@ ghost use Rattle.std.specs.Prelude.{◌+◌, ◌*◌, ◌≤◌, ◌≡◌, leng
 ghost use Rattle.delivery.specs.Limits.{limits};
 ghost use Rattle.bench.specs.Events.{event_bytes};
 ghost use Rattle.bench.specs.Runs.{events_in};
-ghost use Rattle.schedule.specs.Prints.{Puts, buffer_from};
-ghost use Rattle.fenderacai.specs.Rows.{row_size};
+ghost use Rattle.schedule.specs.Prints.{buffer_from};
+ghost use Rattle.schedule.specs.Private.{Puts};
+ghost use Rattle.fenderacai.specs.Private.{row_size};
 ghost use Rattle.fenderacai.specs.Traces.{rows_of, traced};
 
 use crate::row::{self, Words};

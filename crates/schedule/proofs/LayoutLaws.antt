@@ -26,6 +26,7 @@ use Rattle.schedule.specs.Files.{
   byte_due,
   many_due,
   mark_due,
+  marks_due,
   bus_due,
   most_events,
   count_due,
@@ -186,12 +187,12 @@ pub bus-laid : (L : Limits) (bs ms rest : List ℕ) → bus_due L bs ≡ got ms 
 unfolding bus_due
 bus-laid L bs ms rest e = first (next-went _ (byte_due bs) (got ms rest) e)
   where
-    first : Went (λ (n : ℕ) (cs : List ℕ). if is_board L n then many_due mark_due n cs else fault NoBus) (byte_due bs) (got ms rest)
+    first : Went (λ (n : ℕ) (cs : List ℕ). if is_board L n then marks_due n cs else fault NoBus) (byte_due bs) (got ms rest)
         → (Bytes bs → bs ≡ length ms ∷ ms ++ rest) × (is_board L (length ms) ≡ true) × All (λ m. is_mark m ≡ true) ms
     first (stopped w e g) = absurd (got-no-fault ms rest w g)
     first (went n cs e g) =
         let whole = byte-went bs n cs e in
-        let t = test-went (is_board L n) (many_due mark_due n cs) NoBus ms rest g in
+        let t = test-went (is_board L n) (marks_due n cs) NoBus ms rest g in
         let m = many-laid mark_due _ _ mark-undoes n cs ms rest t.1 in (
           λ b. whole
               ∙ ap (λ (x : ℕ). x ∷ cs) (sym m.1)

@@ -1,7 +1,8 @@
 -- Laws of a file's answers (FaultLaws), of reading (ReadingLaws), of a schedule laid out in bytes (LayoutLaws), of how much
 -- of a file is looked at (PrefixLaws), of the two sections and the whole file (SectionLaws, FileLaws), of what is printed
--- (PrintLaws) and of playing a file that was read (PlayLaws). Then the letters a to l (ExampleLaws), and demands 1 and 2
--- for files (Demands).
+-- (PrintLaws) and of playing a file that was read (PlayLaws). Then the second text of a file's answer (StopLaws), the worked
+-- examples (ExampleLaws), and what is claimed of every file (ClaimLaws).
+pub mod ExampleLaws
 pub mod FaultLaws
 pub mod ReadingLaws
 pub mod LayoutLaws
@@ -11,6 +12,5 @@ pub mod FileLaws
 pub mod PrintLaws
 pub mod PlayLaws
 pub mod StopLaws
-pub mod ExampleLaws
-pub mod Demands
+pub mod ClaimLaws
 pub mod Rules

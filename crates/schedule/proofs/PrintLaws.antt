@@ -14,15 +14,15 @@ use lib.ListN.{length, take, drop, get_or, set, length-append}
 use Rattle.std.proofs.lemmas.List.{take_more}
 use Rattle.std.proofs.lemmas.Fmt.{decimal_from_appends, length-decimal-le, length-decimal-le_succ}
 use Rattle.std.specs.Fmt as fmt
-use lib.Seq.{sets, length-sets, take-append_seam}
+use lib.Seq.{sets, length-sets, sets-eq, take-append_seam}
 use Rattle.std.specs.Prelude.{Result, Ok, Err}
 use Rattle.signer.proofs.ConditionalLaws.{if-elim, if-true, if-false}
 use Rattle.delivery.specs.Limits.{limits}
-use Rattle.bench.specs.Runs.{written}
 use Rattle.bench.specs.declared.show.Shown.{Shown}
 use Rattle.bench.proofs.RunLaws.{sets-written}
 use Rattle.schedule.specs.Files.{most_events, fault_number}
-use Rattle.schedule.specs.Prints.{digit, decimal_in, decimal, parts_to, event_line, board_line, refused_line, report_from, buffer_from, PutAt, Puts, event_line_bytes, board_line_bytes, longest_print}
+use Rattle.schedule.specs.Prints.{digit, decimal_in, decimal, parts_to, event_line, board_line, refused_line, report_from, buffer_from, event_line_bytes, board_line_bytes, longest_print}
+use Rattle.schedule.specs.Private.{PutAt, Puts}
 use Rattle.schedule.specs.declared.fault.Fault.{Fault}
 use Rattle.schedule.specs.declared.report.TooShort.{TooShort}
 use Rattle.schedule.proofs.FaultLaws.{fault-row}
@@ -248,6 +248,8 @@ unfolding report_from
 never-short text room r h e = let z : Err r ≡ Ok (length text) = e ∙ if-true _ _ _ (le-leb (length text) room h) in cc
 
 pub text-first : (text buf : List ℕ) → length text ≤ length buf → take (length text) (buffer_from text buf) ≡ text
-unfolding buffer_from written
 text-first text buf h =
-    ap (take (length text)) (if-true _ _ _ (le-leb (length text) (length buf) h)) ∙ take-append_seam text (drop (length text) buf)
+    ap
+    (take (length text))
+    (sym (buffer-written h (record { place = refl; bytes = refl })) ∙ sets-eq text buf 0 (omega arith))
+    ∙ take-append_seam text (drop (0 + length text) buf)

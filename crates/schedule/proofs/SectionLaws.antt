@@ -51,13 +51,6 @@ marks-start n bs =
     let e : n ≡ n - 0 = omega arith in
     ap (λ (m : ℕ). marks_due m bs) e ∙ sym (next-same (marks_due (n - 0) bs))
 
-pub marks-end : (n : ℕ) (bs : List ℕ) → marks_left n n bs ≡ got (take n bs) (drop n bs)
-unfolding many_due next
-marks-end n bs =
-    let e : n - n ≡ 0 = omega arith in
-    ap (λ (m : ℕ). next (marks_due m (drop n bs)) (λ ms rest. got (take n bs ++ ms) rest)) e
-    ∙ ap (λ (ms : List ℕ). got ms (drop n bs)) (append-nil (take n bs))
-
 module _ (n k : ℕ) (bs : List ℕ) (h : k < n) where
   one_more : n - k ≡ suc (n - (k + 1))
   one_more = omega arith
@@ -111,6 +104,14 @@ module _ (n k : ℕ) (bs : List ℕ) (h : k < n) where
         ∙ sym (append_assoc (take k bs) (get_or bs k 0 ∷ []) rest)
         ∙ ap (λ (xs : List ℕ). xs ++ rest) (sym (ap (λ (j : ℕ). take j bs) (add-one k) ∙ take-suc bs k 0 l))
 
+-- once all were read, none is left
+pub marks-end : (n : ℕ) (bs : List ℕ) → marks_left n n bs ≡ got (take n bs) (drop n bs)
+unfolding many_due next
+marks-end n bs =
+    let e : n - n ≡ 0 = omega arith in
+    ap (λ (m : ℕ). next (marks_due m (drop n bs)) (λ ms rest. got (take n bs ++ ms) rest)) e
+    ∙ ap (λ (ms : List ℕ). got ms (drop n bs)) (append-nil (take n bs))
+
 -- as many events as are asked for, if their bytes are there
 pub events-there : (k : ℕ) (bs : List ℕ) → event_bytes * k ≤ length bs → events_due k bs ≡ got (events_in k bs) (drop (event_bytes * k) bs)
 unfolding many_due event_due
@@ -159,11 +160,7 @@ count-there [] h = absurd (omega arith)
 count-there (b ∷ []) h = absurd (omega arith)
 count-there (b ∷ c ∷ bs) h = refl
 
--- The section of events, by the tests that `Section::read` makes: it is too short for a count;
-pub section-cut : (bs : List ℕ) → length bs < count_bytes → section_of bs ≡ Err EndsEarly
-unfolding section_due section_from
-section-cut bs h = ap section_from (next-fault events_due (count_due bs) EndsEarly (count_cut bs h))
-
+-- The section of events, by the tests that `Section::read` makes, where it has a count:
 module _ (bs : List ℕ) (h : count_bytes ≤ length bs) where
   -- it counts too many;
   pub section-many : most_events < count_at bs → section_of bs ≡ Err TooMany
@@ -199,3 +196,8 @@ module _ (bs : List ℕ) (h : count_bytes ≤ length bs) where
     section-there l =
         ap section_from (few ∙ events-there (count_at bs) (drop count_bytes bs) (omega (arith, length-drop count_bytes bs)))
         ∙ ap (λ (k : ℕ). section_counts k) (length-events (count_at bs) (drop count_bytes bs))
+
+-- or it is too short for one
+pub section-cut : (bs : List ℕ) → length bs < count_bytes → section_of bs ≡ Err EndsEarly
+unfolding section_due section_from
+section-cut bs h = ap section_from (next-fault events_due (count_due bs) EndsEarly (count_cut bs h))

@@ -1,5 +1,4 @@
--- Document 01, "Where an event or file stops" and "Schedule file and program": what the bytes of a file mean. A file is
--- read from the front, and the first fault that is met is its answer.
+-- What the bytes of a file mean. A file is read from the front, and the first fault that is met is its answer.
 use Rattle.std.specs.Prelude.{ℕ, zero, suc, ◌+◌, ◌*◌, List, [], ◌∷◌, leb, length, drop, Result, Ok, Err}
 use Rattle.std.specs.Prelude.{if◌then◌else◌}
 use Rattle.delivery.specs.Limits.{Limits}

@@ -1,4 +1,4 @@
--- Document 01, "Schedule file and program", the other way round: the bytes of a schedule.
+-- The other way round: the bytes of a schedule.
 use Rattle.std.specs.Prelude.{ℕ, ◌/◌, ◌%◌, ◌≤◌, ◌<◌, ◌≡◌, true, length}
 use mathlib.Core.List.{List, [], ◌∷◌, ◌++◌, flat_map}
 use Rattle.delivery.specs.Limits.{Limits}

@@ -1,7 +1,5 @@
--- Document 01, "Schedule file and program": what is printed, as bytes.
-use Rattle.std.specs.Prelude.{ℕ, zero, suc, ◌+◌, ◌*◌, ◌/◌, ◌%◌, List, [], ◌∷◌, ◌++◌, leb, ltb, length, ◌≡◌, ◌≤◌, Result, Ok, Err}
-use denote.Ref.{MutBor}
-use Rattle.std.proofs.lemmas.List.Edits.{sets}
+-- What is printed, as bytes.
+use Rattle.std.specs.Prelude.{ℕ, zero, suc, ◌+◌, ◌*◌, ◌/◌, ◌%◌, List, [], ◌∷◌, ◌++◌, leb, ltb, length, Result, Ok, Err}
 use Rattle.signer.specs.FromOne.{nth}
 use Rattle.std.specs.Prelude.{if◌then◌else◌}
 use Rattle.delivery.specs.Limits.{Limits}
@@ -11,7 +9,6 @@ use Rattle.bench.specs.declared.bench.Bench.{Bench}
 use Rattle.bench.specs.declared.show.Shown.{Shown}
 use Rattle.schedule.specs.Files.{fault_number, most_events, Reading, Contents, first_bench, file_due}
 use Rattle.schedule.specs.declared.fault.Fault.{Fault}
-use Rattle.schedule.specs.declared.report.Report.{Report}
 use Rattle.schedule.specs.declared.report.TooShort.{TooShort}
 
 -- A number in decimal, with no zero in front: below ten it is one digit, and from there on the decimal of its tenth part
@@ -96,26 +93,3 @@ board_line_bytes = 14
 
 abbrev pub longest_print : Limits → ℕ
 longest_print L = most_events * event_line_bytes + L.boards * board_line_bytes
-
--- What the calls within make of a file that was read and played, or is refused: the lines of it, and that there are no more
--- of them than there can be.
-abbrev pub report_lines : Limits → Report → List ℕ
-report_lines L r = event_lines r.count r.answers ++ board_lines L r.n r.bench
-
-abbrev pub report_text : Limits → Result Report Fault → List ℕ
-report_text L (Ok r) = report_lines L r
-report_text L (Err f) = refused_line f
-
-abbrev pub IsWithin : Limits → Report → Type 0
-IsWithin L r = (r.count ≤ most_events) × (r.n ≤ L.boards)
-
--- What the calls within that write a part of it promise: the text stands in the buffer from a place on, as far as the
--- buffer goes, and the place after it is told.
-pub record PutAt (text buf : List ℕ) (at : ℕ) (buf' : List ℕ) (after : ℕ) : Type 0 where
-  pub place : after ≡ at + length text
-  pub bytes : buf' ≡ sets buf at text
-
--- And the buffer is still the one that was lent.
-pub record Puts (xs : List ℕ) (out : MutBor (List ℕ)) (at : ℕ) (out' : MutBor (List ℕ)) (after : ℕ) : Type 0 where
-  pub text : PutAt xs out.now at out'.now after
-  pub same : out'.ghost_name ≡ out.ghost_name

@@ -1,6 +1,8 @@
-ghost use Rattle.std.specs.Prelude.{◌≡◌};
+ghost use Rattle.std.specs.Prelude.{◌≡◌, IfOk, IfErr};
 ghost use Rattle.delivery.specs.Limits.{limits};
+ghost use Rattle.schedule.specs.Files.{fault_number};
 ghost use Rattle.schedule.specs.Readings.{schedule_of};
+ghost use Rattle.schedule.specs.Stops.{Answered};
 
 use crate::bus::Bus;
 use crate::fault::Fault;
@@ -25,7 +27,9 @@ impl Schedule {
     // Reads a whole file: n and the marks, then the section of events, which has to end with the file.
     #[tactic(auto, using(crate::proofs::Rules::rules_file_schedule_read))]
     pub fn read(file: &[u8]) -> Result<Schedule, Fault>
-        ensures { result ≡ schedule_of limits file.now }
+        ensures meaning { result ≡ schedule_of limits file.now }
+        ensures taken { IfOk result (λ read. Answered file.now 0) }
+        ensures refused { IfErr result (λ fault. Answered file.now (fault_number fault)) }
     {
         let bus = Bus::read(file)?;
         let at = 1 + bus.n as usize;

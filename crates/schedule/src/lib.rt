@@ -12,7 +12,7 @@ mod section;
 mod text;
 
 pub use bus::Bus;
-pub use claims::every_file;
+pub use claims::{every_file, file_sizes, worked_examples};
 pub use fault::Fault;
 pub use file::Schedule;
 pub use player::play;

@@ -1,6 +1,8 @@
 ghost use Rattle.std.specs.Prelude.{◌*◌, ◌≤◌, ◌≡◌, length, take, IfOk};
 ghost use Rattle.delivery.specs.Limits.{limits};
-ghost use Rattle.schedule.specs.Prints.{printed, report_from, buffer_from, report_lines, report_text, IsWithin, PutAt, Puts, longest_print};
+ghost use Rattle.schedule.specs.Prints.{printed, report_from, buffer_from, longest_print};
+ghost use Rattle.schedule.specs.Private.{report_lines, report_text, IsWithin, PutAt, Puts};
+ghost use Rattle.schedule.specs.Claims.{Reports};
 
 use crate::fault::Fault;
 use crate::file::Schedule;
@@ -94,6 +96,7 @@ impl Report {
         ensures buffer { out.new ≡ buffer_from (printed limits file.now) out.old }
         ensures within { length (printed limits file.now) ≤ longest_print limits }
         ensures fits { IfOk result (λ n. n ≤ length out.new) }
+        ensures reports { Reports file.now (printed limits file.now) }
     {
         let report = Report::of(file);
         let length = Report::put(&report, &mut out[..0]);
@@ -108,6 +111,7 @@ impl Report {
     pub fn print(file: &[u8], out: &mut [u8; Report::LONGEST]) -> usize
         ensures fits { result ≤ length out.new }
         ensures text { take result out.new ≡ printed limits file.now }
+        ensures reports { Reports file.now (take result out.new) }
     {
         let Ok(length) = Report::write(file, out) else {
             unreachable!();

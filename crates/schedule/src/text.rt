@@ -1,6 +1,7 @@
 ghost use Rattle.std.specs.Prelude.{◌+◌, ◌≤◌, ◌≡◌, [], ◌∷◌, length};
 ghost use Rattle.delivery.specs.Limits.{limits};
-ghost use Rattle.schedule.specs.Prints.{decimal, event_line, board_line, refused_line, Puts, longest_print};
+ghost use Rattle.schedule.specs.Prints.{decimal, event_line, board_line, refused_line, longest_print};
+ghost use Rattle.schedule.specs.Private.{Puts};
 
 use crate::fault::Fault;
 use bench::Shown;

@@ -3,7 +3,7 @@ use native.Mathlib.Omega.{arith}
 use Rattle.delivery.specs.Limits.{limits}
 use Rattle.bench.specs.Benches.{board_at, signer_at}
 use Rattle.schedule.proofs.PrintLaws.{parts_none, parts_next, length-parts}
-use Rattle.fenderacai.specs.Rows.{board_size}
+use Rattle.fenderacai.specs.Private.{board_size}
 use Rattle.fenderacai.proofs.RowLaws.{length-board, room-left}
 use Rattle.fenderacai.proofs.row.Words.boards.Goals as goal
 

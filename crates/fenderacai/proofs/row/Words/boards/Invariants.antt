@@ -1,7 +1,8 @@
 -- The loop's invariant of `Words::boards`: the first k boards are put.
 use Rattle.delivery.specs.Limits.{limits}
 use Rattle.bench.specs.Benches.{board_at, signer_at}
-use Rattle.schedule.specs.Prints.{parts_to, Puts}
+use Rattle.schedule.specs.Prints.{parts_to}
+use Rattle.schedule.specs.Private.{Puts}
 use Rattle.fenderacai.specs.Rows.{board_words}
 use Rattle.fenderacai.proofs.row.Words.boards.Given as goal
 

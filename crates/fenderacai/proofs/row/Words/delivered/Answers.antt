@@ -5,7 +5,7 @@ use Rattle.std.proofs.Common.{rules}
 use Rattle.delivery.specs.Limits.{limits}
 use Rattle.bench.specs.Benches.{heard_by}
 use Rattle.schedule.proofs.PrintLaws.{parts_none, parts_next, length-parts}
-use Rattle.fenderacai.specs.Rows.{table_size}
+use Rattle.fenderacai.specs.Private.{table_size}
 use Rattle.fenderacai.proofs.RowLaws.{length-table, room-left}
 use Rattle.fenderacai.proofs.row.Words.delivered.Goals as goal
 

@@ -1,7 +1,8 @@
 -- The loop's invariant of `Words::delivered`: what the first i boards delivered is put.
 use Rattle.delivery.specs.Limits.{limits}
 use Rattle.bench.specs.Benches.{heard_by}
-use Rattle.schedule.specs.Prints.{parts_to, Puts}
+use Rattle.schedule.specs.Prints.{parts_to}
+use Rattle.schedule.specs.Private.{Puts}
 use Rattle.fenderacai.specs.Rows.{table_words}
 use Rattle.fenderacai.proofs.row.Words.delivered.Given as goal
 

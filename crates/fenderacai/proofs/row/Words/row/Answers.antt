@@ -10,9 +10,10 @@ use Rattle.delivery.specs.Limits.{limits}
 use Rattle.delivery.specs.Owed.{receivers}
 use Rattle.bench.specs.Benches.{signed_by}
 use Rattle.bench.specs.declared.bench.Bench.{Bench}
-use Rattle.schedule.specs.Prints.{Puts}
+use Rattle.schedule.specs.Private.{Puts}
 use Rattle.schedule.proofs.PrintLaws.{puts_then}
-use Rattle.fenderacai.specs.Rows.{boards_words, row, front_size, table_size, row_size}
+use Rattle.fenderacai.specs.Rows.{boards_words, row}
+use Rattle.fenderacai.specs.Private.{front_size, table_size, row_size}
 use Rattle.fenderacai.proofs.RowLaws.{length-boards, length-delivered, room-left}
 use Rattle.fenderacai.proofs.row.Words.row.Goals as goal
 

@@ -13,7 +13,7 @@ use Rattle.bench.specs.Runs.{events_in}
 use Rattle.bench.specs.declared.bench.Bench.{Bench}
 use Rattle.bench.specs.declared.event.Event.{Event}
 use Rattle.bench.proofs.AnswerLaws.{event_played}
-use Rattle.schedule.specs.Prints.{PutAt}
+use Rattle.schedule.specs.Private.{PutAt}
 use Rattle.schedule.proofs.PrintLaws.{put-length}
 use Rattle.fenderacai.specs.Rows.{row}
 use Rattle.fenderacai.specs.Traces.{rows_of}

@@ -7,7 +7,7 @@ use lib.Seq.{sets}
 use Rattle.delivery.specs.Limits.{limits}
 use Rattle.bench.specs.Events.{event_bytes}
 use Rattle.bench.specs.Runs.{events_in}
-use Rattle.fenderacai.specs.Rows.{row_size}
+use Rattle.fenderacai.specs.Private.{row_size}
 use Rattle.fenderacai.specs.Traces.{rows_of}
 use Rattle.fenderacai.proofs.row.Words.rows.Given as goal
 

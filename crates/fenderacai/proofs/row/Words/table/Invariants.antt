@@ -5,8 +5,10 @@ use mathlib.Core.Path.{◌≡◌}
 use mathlib.Core.List.{◌++◌}
 use lib.ListN.{length}
 use Rattle.delivery.specs.Limits.{limits}
-use Rattle.schedule.specs.Prints.{parts_to, Puts}
-use Rattle.fenderacai.specs.Rows.{words_to, Tells}
+use Rattle.schedule.specs.Prints.{parts_to}
+use Rattle.schedule.specs.Private.{Puts}
+use Rattle.fenderacai.specs.Rows.{words_to}
+use Rattle.fenderacai.specs.Private.{Tells}
 use Rattle.fenderacai.proofs.row.Words.table.Given as goal
 
 abbrev pub invariant-loop-k : goal.invariant-loop-k

@@ -4,7 +4,8 @@ use Prim.Native.Nat.{◌+◌, ◌-◌, ◌*◌, ◌≤◌}
 use mathlib.Core.List.{◌++◌}
 use Rattle.delivery.specs.Limits.{limits}
 use Rattle.schedule.specs.Files.{most_events}
-use Rattle.schedule.specs.Prints.{event_lines, board_lines, event_line_bytes, board_line_bytes, Puts}
+use Rattle.schedule.specs.Prints.{event_lines, board_lines, event_line_bytes, board_line_bytes}
+use Rattle.schedule.specs.Private.{Puts}
 use Rattle.schedule.proofs.report.Report.lines.Given as goal
 
 abbrev pub invariant-loop-k : goal.invariant-loop-k

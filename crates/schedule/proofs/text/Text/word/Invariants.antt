@@ -1,6 +1,6 @@
 -- The loop's invariant of `Text::word`: the first bytes are put.
 use lib.ListN.{take}
-use Rattle.schedule.specs.Prints.{Puts}
+use Rattle.schedule.specs.Private.{Puts}
 use Rattle.schedule.proofs.text.Text.word.Given as goal
 
 abbrev pub invariant-loop-byte : goal.invariant-loop-byte

@@ -1,0 +1,122 @@
+-- What is claimed of every file (specs/Claims). Nothing is assumed: it holds of every list of bytes, of any length.
+use Prim.Native.Nat.{ℕ, zero, suc, ◌+◌, ◌-◌, ◌≤◌, ◌<◌}
+use native.Mathlib.Omega.{arith}
+use mathlib.Core.Path.{◌≡◌, refl, sym, ap, subst⁻¹, ◌∙◌}
+use mathlib.Core.List.{List, [], ◌∷◌, ◌++◌, append_assoc}
+use lib.ListN.{length, get_or}
+use Rattle.std.specs.Prelude.{Ok, Err}
+use Rattle.signer.specs.FromOne.{nth}
+use Rattle.signer.proofs.FromOneLaws.{within_low, nth-index}
+use Rattle.delivery.specs.Limits.{limits}
+use Rattle.bench.specs.Runs.{after, answers_to}
+use Rattle.bench.specs.Shows.{letter_byte, shown}
+use Rattle.bench.specs.declared.show.Shown.{Shown}
+use Rattle.bench.proofs.SetupLaws.{board-made}
+use Rattle.bench.proofs.Demands.{agreed}
+use Rattle.schedule.specs.Files.{Reading, got, fault_number, file_number, Contents, first_bench, file_due, answer_of}
+use Rattle.schedule.specs.Layouts.{All, none, more, Holdable}
+use Rattle.schedule.specs.Prints.{decimal, line, space, parts_to, event_lines, board_line, board_lines, refused_word, refused_line, printed_from, printed}
+use Rattle.schedule.specs.Stops.{Answered}
+use Rattle.schedule.specs.Claims.{ReadExactly, LookedAt, Plays, Reporting}
+use Rattle.schedule.specs.declared.fault.Fault.{Fault}
+use Rattle.schedule.proofs.FaultLaws.{fault-row}
+use Rattle.schedule.proofs.ReadingLaws.{answer-fault}
+use Rattle.schedule.proofs.LayoutLaws.{file-laid, file-read}
+use Rattle.schedule.proofs.StopLaws.{answered-number}
+use Rattle.schedule.proofs.PrefixLaws.{enough-read}
+use Rattle.schedule.proofs.PrintLaws.{decimal-one}
+use Rattle.schedule.proofs.PlayLaws.{refused-print}
+
+-- a text ends with a line end
+abbrev Ended : List ℕ → Type 0
+Ended xs = (front : List ℕ) × (xs ≡ front ++ 10 ∷ [])
+
+ended-after : (xs ys : List ℕ) → Ended ys → Ended (xs ++ ys)
+ended-after xs ys e = (xs ++ e.0, ap (λ (zs : List ℕ). xs ++ zs) e.1 ∙ sym (append_assoc xs e.0 (10 ∷ [])))
+
+line-ended : (ws : List (List ℕ)) → Ended (line ws)
+line-ended [] = ([], refl)
+line-ended (w ∷ []) = (w, refl)
+line-ended (w ∷ x ∷ ws) = ended-after w (space ∷ line (x ∷ ws)) (ended-after (space ∷ []) (line (x ∷ ws)) (line-ended (x ∷ ws)))
+
+-- so do one part or more, of which each does
+parts-ended : (n : ℕ) (f : ℕ → List ℕ) → 1 ≤ n → ((k : ℕ) → Ended (f k)) → Ended (parts_to n f)
+unfolding parts_to
+parts-ended zero f h e = absurd (omega arith)
+parts-ended (suc n) f h e = ended-after (parts_to n f) (f (suc n)) (e (suc n))
+
+board-ended : (k : ℕ) (s : Shown) → Ended (board_line k s)
+unfolding board_line
+board-ended k s = line-ended (decimal k ∷ (letter_byte s.letter ∷ []) ∷ decimal s.round.0 ∷ decimal s.value ∷ [])
+
+-- the line of a refused file
+refused-words : (w : Fault) → refused_line w ≡ refused_word ++ 32 ∷ (48 + fault_number w) ∷ 10 ∷ []
+unfolding refused_line
+refused-words w = ap (λ (ds : List ℕ). refused_word ++ 32 ∷ ds ++ 10 ∷ []) (decimal-one (fault_number w) (omega (arith, fault-row w)))
+
+-- what holds of all of a list holds of its k-th
+all-at : {A : Type 0} (P : A → Type 0) (xs : List A) (i : ℕ) (d : A) → All P xs → i < length xs → P (get_or xs i d)
+all-at P [] i d none h = absurd (omega arith)
+all-at P (x ∷ xs) zero d (more p a) h = p
+all-at P (x ∷ xs) (suc i) d (more p a) h = all-at P xs i d a (omega arith)
+
+all-nth : {A : Type 0} (P : A → Type 0) (xs : List A) (k : ℕ) (d : A) → All P xs → 1 ≤ k → k ≤ length xs → P (nth xs k d)
+all-nth P xs k d a l h = subst⁻¹ P (nth-index xs k d l) (all-at P xs (k - 1) d a (omega arith))
+
+-- a file is read as exactly what its bytes mean
+pub read-exactly : ReadExactly
+read-exactly =
+    record {
+      exact = λ bs b f rest e. let l = file-laid limits bs f rest e in (l.0 b, l.1);
+      whole = file-read limits;
+    }
+
+-- and no more of it is looked at than this
+pub looked-at : LookedAt
+looked-at = enough-read limits
+
+module _ (bs : List ℕ) where
+  holds : (f : Contents) (rest : List ℕ) → file_due limits bs ≡ got f rest → Holdable limits f
+  holds f rest e = (file-laid limits bs f rest e).1
+
+  -- one that is taken gets its bench and plays as every list does
+  plays : (f : Contents) (rest : List ℕ) → file_due limits bs ≡ got f rest → Plays f (printed limits bs)
+  unfolding printed_from
+  plays f rest e =
+      let h = holds f rest e in
+      record {
+        made = board-made limits (length f.marks) f.marks h.boards (λ k. all-nth _ f.marks k 0 h.marks);
+        report = ap (printed_from limits) e;
+        agreement = agreed (length f.marks) f.marks f.events;
+      }
+
+  -- and one that is refused prints its number
+  refused : (m : ℕ) → 0 < m → Answered bs m → printed limits bs ≡ refused_word ++ 32 ∷ (48 + m) ∷ 10 ∷ []
+  unfolding file_number answer_of printed_from
+  refused m l a = go (file_due limits bs) refl (answered-number bs m a)
+    where
+      go : (p : Reading Contents) → file_due limits bs ≡ p → file_number (answer_of p) ≡ m → printed_from limits p ≡ refused_word ++ 32 ∷ (48 + m) ∷ 10 ∷ []
+      go (Ok (f, rest)) e n = absurd (omega (arith, n))
+      go (Err w) e n = refused-words w ∙ ap (λ (d : ℕ). refused_word ++ 32 ∷ (48 + d) ∷ 10 ∷ []) n
+
+  ended : Ended (printed limits bs)
+  unfolding printed_from
+  ended = go (file_due limits bs) holds
+    where
+      go : (p : Reading Contents) → ((f : Contents) (rest : List ℕ) → p ≡ got f rest → Holdable limits f) → Ended (printed_from limits p)
+      go (Ok (f, rest)) h =
+          let c = first_bench limits f in
+          ended-after
+          (event_lines (length f.events) (answers_to limits c f.events))
+          (board_lines limits (length f.marks) (after limits c f.events))
+          (parts-ended (length f.marks) _ (within_low limits.boards _ (h f rest refl).boards) (λ k. board-ended k (shown limits (after limits c f.events) k)))
+      go (Err w) h = (refused_word ++ 32 ∷ (48 + fault_number w) ∷ [], refused-words w)
+
+pub reporting : Reporting
+reporting bs =
+    record {
+      taken = plays bs;
+      unread = λ w t. (refused-print limits bs w (answer-fault (file_due limits bs) w t)).0;
+      refused = refused bs;
+      ends = ended bs;
+    }

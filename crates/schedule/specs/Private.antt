@@ -1,0 +1,32 @@
+-- What private calls alone promise by; whoever believes the open calls need not read it.
+use Rattle.std.specs.Prelude.{ℕ, ◌+◌, ◌≤◌, ◌≡◌, List, ◌++◌, length, Result, Ok, Err}
+use denote.Ref.{MutBor}
+use Rattle.std.proofs.lemmas.List.Edits.{sets}
+use Rattle.delivery.specs.Limits.{Limits}
+use Rattle.schedule.specs.Files.{most_events}
+use Rattle.schedule.specs.Prints.{event_lines, board_lines, refused_line}
+use Rattle.schedule.specs.declared.fault.Fault.{Fault}
+use Rattle.schedule.specs.declared.report.Report.{Report}
+
+-- What the calls within make of a file that was read and played, or is refused: the lines of it, and that there are no more
+-- of them than there can be.
+abbrev pub report_lines : Limits → Report → List ℕ
+report_lines L r = event_lines r.count r.answers ++ board_lines L r.n r.bench
+
+abbrev pub report_text : Limits → Result Report Fault → List ℕ
+report_text L (Ok r) = report_lines L r
+report_text L (Err f) = refused_line f
+
+abbrev pub IsWithin : Limits → Report → Type 0
+IsWithin L r = (r.count ≤ most_events) × (r.n ≤ L.boards)
+
+-- What the calls within that write a part of it promise: the text stands in the buffer from a place on, as far as the
+-- buffer goes, and the place after it is told.
+pub record PutAt (text buf : List ℕ) (at : ℕ) (buf' : List ℕ) (after : ℕ) : Type 0 where
+  pub place : after ≡ at + length text
+  pub bytes : buf' ≡ sets buf at text
+
+-- And the buffer is still the one that was lent.
+pub record Puts (xs : List ℕ) (out : MutBor (List ℕ)) (at : ℕ) (out' : MutBor (List ℕ)) (after : ℕ) : Type 0 where
+  pub text : PutAt xs out.now at out'.now after
+  pub same : out'.ghost_name ≡ out.ghost_name
