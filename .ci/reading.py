@@ -7,6 +7,7 @@ import re
 Function = collections.namedtuple('Function', 'name line place is_open parameters result clauses body')
 Clause = collections.namedtuple('Clause', 'word label text')
 Definition = collections.namedtuple('Definition', 'name line is_statement is_law text')
+LABEL = re.compile(r'(?m)^([ \t]+)(?:pub[ \t]+)?[^\s(){}:]+(?=[ \t]*:\s)')
 
 # what is no text of code, and of specs and proofs: comments and strings
 BESIDE = re.compile(r'//[^\n]*|/\*.*?\*/|b?r(#*)".*?"\1|b?"(?:\\.|[^"\\])*"|b?\'(?:\\[^\n]|[^\\\'\n])\'', re.S)
@@ -83,9 +84,8 @@ ITEM = re.compile(r'( *)((?:(?:abbrev|opaque|unfoldable|pub|instance)\s+)*)(?:(r
 
 def definitions(raw):
     """Each definition and law of a file of specs or proofs. A statement is a definition whose type ends in `Type`; a law is what
-    is neither to be opened nor a type."""
-    text = blanked(raw, ASIDE)
-    lines, starts = text.split('\n'), []
+    is neither to be opened nor a type. What a field or a case is called is no text of a record or of data."""
+    lines, starts = blanked(raw, ASIDE).split('\n'), []
     for n, line in enumerate(lines):
         item = ITEM.match(line)
         if not item or item[4] in ('use', 'mod', 'open', 'module', 'let', 'where') or ' use ' in line[:12]:
@@ -104,7 +104,8 @@ def definitions(raw):
         typed = re.sub(r'\s(=\s|where\b).*', '', ' '.join(sign)).strip()
         is_statement = bool(item[3]) or re.search(r'\bType(\s+(\d+|\w+|\{\d+\}))?\s*$', typed) is not None
         is_law = not item[3] and not re.search(r'\b(abbrev|opaque|unfoldable)\b', item[2])
-        yield Definition(item[4], n + 1, is_statement, is_law, '\n'.join(body))
+        text = '\n'.join(body)
+        yield Definition(item[4], n + 1, is_statement, is_law, LABEL.sub(r'\1', text) if item[3] else text)
 
 
 USE = re.compile(r'\buse\s+Rattle\.(\w+)\.(?:specs|proofs)\.[\w.]+?(?:\.\{([^}]*)\}|\s+as\s+\w+|(?=\s*;?\s*$))', re.M)

@@ -15,7 +15,7 @@ const ROOM: usize = Schedule::LONGEST + 1;
 /// Reads a schedule file to its end, plays it, and writes its report and nothing else. Of a reader whose bytes are known it is
 /// the report of all that the reader had left (`written`); of any other it is still that of some file (`reported`). An error of
 /// the reader or the writer is handed back.
-pub fn run<R: Read, W: Write>(reader: &mut R, writer: &mut W) -> io::Result<()>
+fn run<R: Read, W: Write>(reader: &mut R, writer: &mut W) -> io::Result<()>
     ensures written { OnOk result (IfSome (R.remaining reader.old)
         (λ file. Appends (W.contents writer.old) (W.contents writer.new) (printed limits file))) }
     ensures reported { OnOk result ((file : List ℕ) × Appends (W.contents writer.old) (W.contents writer.new) (printed limits file)) }
