@@ -51,6 +51,6 @@ pub record Reports (bs text : List ℕ) : Type 0 where
 abbrev pub Reporting : Type 0
 Reporting = (bs : List ℕ) → Reports bs (printed limits bs)
 
--- the bytes of the longest file that is taken, and of the longest report
+-- the bytes of the longest file that is taken, and of a buffer that has room for any report
 abbrev pub Sizes : Type 0
 Sizes = (longest_file limits ≡ 24586) × (longest_print limits ≡ 36962)
