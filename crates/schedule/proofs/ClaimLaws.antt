@@ -4,7 +4,7 @@ use native.Mathlib.Omega.{arith}
 use mathlib.Core.Path.{◌≡◌, refl, sym, ap, subst⁻¹, ◌∙◌}
 use mathlib.Core.List.{List, [], ◌∷◌, ◌++◌, append_assoc}
 use lib.ListN.{length, get_or}
-use Rattle.std.specs.Prelude.{Ok, Err}
+use Rattle.std.specs.Prelude.{Ok, Err, codes}
 use Rattle.signer.specs.FromOne.{nth}
 use Rattle.signer.proofs.FromOneLaws.{within_low, nth-index}
 use Rattle.delivery.specs.Limits.{limits}
@@ -15,7 +15,7 @@ use Rattle.bench.proofs.SetupLaws.{board-made}
 use Rattle.bench.proofs.Demands.{agreed}
 use Rattle.schedule.specs.Files.{Reading, got, fault_number, file_number, Contents, first_bench, file_due, answer_of}
 use Rattle.schedule.specs.Layouts.{All, none, more, Holdable}
-use Rattle.schedule.specs.Prints.{decimal, line, space, parts_to, event_lines, board_line, board_lines, refused_word, refused_line, printed_from, printed}
+use Rattle.schedule.specs.Prints.{decimal, line, space, parts_to, event_lines, board_line, board_lines, refused_line, printed_from, printed}
 use Rattle.schedule.specs.Stops.{Answered}
 use Rattle.schedule.specs.Claims.{ReadExactly, LookedAt, Plays, Reporting}
 use Rattle.schedule.specs.declared.fault.Fault.{Fault}
@@ -29,10 +29,10 @@ use Rattle.schedule.proofs.PlayLaws.{refused-print}
 
 -- a text ends with a line end
 abbrev Ended : List ℕ → Type 0
-Ended xs = (front : List ℕ) × (xs ≡ front ++ 10 ∷ [])
+Ended xs = (front : List ℕ) × (xs ≡ front ++ codes "\n")
 
 ended-after : (xs ys : List ℕ) → Ended ys → Ended (xs ++ ys)
-ended-after xs ys e = (xs ++ e.0, ap (λ (zs : List ℕ). xs ++ zs) e.1 ∙ sym (append_assoc xs e.0 (10 ∷ [])))
+ended-after xs ys e = (xs ++ e.0, ap (λ (zs : List ℕ). xs ++ zs) e.1 ∙ sym (append_assoc xs e.0 (codes "\n")))
 
 line-ended : (ws : List (List ℕ)) → Ended (line ws)
 line-ended [] = ([], refl)
@@ -50,9 +50,9 @@ unfolding board_line
 board-ended k s = line-ended (decimal k ∷ (letter_byte s.letter ∷ []) ∷ decimal s.round.0 ∷ decimal s.value ∷ [])
 
 -- the line of a refused file
-refused-words : (w : Fault) → refused_line w ≡ refused_word ++ 32 ∷ (48 + fault_number w) ∷ 10 ∷ []
+refused-words : (w : Fault) → refused_line w ≡ codes "refused " ++ (48 + fault_number w) ∷ codes "\n"
 unfolding refused_line
-refused-words w = ap (λ (ds : List ℕ). refused_word ++ 32 ∷ ds ++ 10 ∷ []) (decimal-one (fault_number w) (omega (arith, fault-row w)))
+refused-words w = ap (λ (ds : List ℕ). codes "refused " ++ ds ++ codes "\n") (decimal-one (fault_number w) (omega (arith, fault-row w)))
 
 -- what holds of all of a list holds of its k-th
 all-at : {A : Type 0} (P : A → Type 0) (xs : List A) (i : ℕ) (d : A) → All P xs → i < length xs → P (get_or xs i d)
@@ -91,13 +91,13 @@ module _ (bs : List ℕ) where
       }
 
   -- and one that is refused prints its number
-  refused : (m : ℕ) → 0 < m → Answered bs m → printed limits bs ≡ refused_word ++ 32 ∷ (48 + m) ∷ 10 ∷ []
+  refused : (m : ℕ) → 0 < m → Answered bs m → printed limits bs ≡ codes "refused " ++ (48 + m) ∷ codes "\n"
   unfolding file_number answer_of printed_from
   refused m l a = go (file_due limits bs) refl (answered-number bs m a)
     where
-      go : (p : Reading Contents) → file_due limits bs ≡ p → file_number (answer_of p) ≡ m → printed_from limits p ≡ refused_word ++ 32 ∷ (48 + m) ∷ 10 ∷ []
+      go : (p : Reading Contents) → file_due limits bs ≡ p → file_number (answer_of p) ≡ m → printed_from limits p ≡ codes "refused " ++ (48 + m) ∷ codes "\n"
       go (Ok (f, rest)) e n = absurd (omega (arith, n))
-      go (Err w) e n = refused-words w ∙ ap (λ (d : ℕ). refused_word ++ 32 ∷ (48 + d) ∷ 10 ∷ []) n
+      go (Err w) e n = refused-words w ∙ ap (λ (d : ℕ). codes "refused " ++ (48 + d) ∷ codes "\n") n
 
   ended : Ended (printed limits bs)
   unfolding printed_from
@@ -110,7 +110,7 @@ module _ (bs : List ℕ) where
           (event_lines (length f.events) (answers_to limits c f.events))
           (board_lines limits (length f.marks) (after limits c f.events))
           (parts-ended (length f.marks) _ (within_low limits.boards _ (h f rest refl).boards) (λ k. board-ended k (shown limits (after limits c f.events) k)))
-      go (Err w) h = (refused_word ++ 32 ∷ (48 + fault_number w) ∷ [], refused-words w)
+      go (Err w) h = (codes "refused " ++ (48 + fault_number w) ∷ [], refused-words w)
 
 pub reporting : Reporting
 reporting bs =

@@ -1,6 +1,6 @@
 -- What is claimed of every list of bytes. src/claims shows it, with nothing assumed, and the calls that report a file promise
 -- of it what concerns them.
-use Rattle.std.specs.Prelude.{ℕ, ◌+◌, ◌<◌, ◌≡◌, List, [], ◌∷◌, ◌++◌, ◌↔◌, length, take, Ok, Err}
+use Rattle.std.specs.Prelude.{ℕ, ◌+◌, ◌<◌, ◌≡◌, List, [], ◌∷◌, ◌++◌, ◌↔◌, length, take, codes, Ok, Err}
 use Rattle.delivery.specs.Limits.{limits}
 use Rattle.bench.specs.Setups.{fresh_answer}
 use Rattle.bench.specs.Runs.{after, answers_to}
@@ -10,7 +10,7 @@ use Rattle.schedule.specs.Files.{file_number, got, Contents, first_bench, file_d
 use Rattle.schedule.specs.Layouts.{laid, Bytes, Holdable}
 use Rattle.schedule.specs.Stops.{Answered}
 use Rattle.schedule.specs.Readings.{schedule_of}
-use Rattle.schedule.specs.Prints.{event_lines, board_lines, refused_word, printed, longest_print}
+use Rattle.schedule.specs.Prints.{event_lines, board_lines, printed, longest_print}
 use Rattle.schedule.specs.declared.fault.Fault.{Fault}
 
 -- the number that a file is answered with
@@ -45,12 +45,12 @@ pub record Plays (f : Contents) (text : List ℕ) : Type 0 where
 pub record Reports (bs text : List ℕ) : Type 0 where
   pub taken : (f : Contents) (rest : List ℕ) → file_due limits bs ≡ got f rest → Plays f text
   pub unread : (w : Fault) → answer_of (file_due limits bs) ≡ Err w → schedule_of limits bs ≡ Err w
-  pub refused : (m : ℕ) → 0 < m → Answered bs m → text ≡ refused_word ++ 32 ∷ (48 + m) ∷ 10 ∷ []
-  pub ends : (front : List ℕ) × (text ≡ front ++ 10 ∷ [])
+  pub refused : (m : ℕ) → 0 < m → Answered bs m → text ≡ codes "refused " ++ (48 + m) ∷ codes "\n"
+  pub ends : (front : List ℕ) × (text ≡ front ++ codes "\n")
 
 abbrev pub Reporting : Type 0
 Reporting = (bs : List ℕ) → Reports bs (printed limits bs)
 
--- the bytes of the longest file that is taken, and of the longest report
+-- the bytes of the longest file that is taken, and of a buffer that has room for any report
 abbrev pub Sizes : Type 0
 Sizes = (longest_file limits ≡ 24586) × (longest_print limits ≡ 36962)

@@ -30,10 +30,10 @@ pub struct TooShort {
 
 impl Report {
     // The most bytes of an event's line: four digits, a space, three digits, the line end.
-    const EVENT_LINE_BYTES: usize = 9;
+    pub(crate) const EVENT_LINE_BYTES: usize = 9;
 
     // The most bytes of a board's line: a digit, the letter, three digits and five, three spaces, the line end.
-    const BOARD_LINE_BYTES: usize = 14;
+    pub(crate) const BOARD_LINE_BYTES: usize = 14;
 
     // A buffer of so many bytes has room for the report of any file.
     pub const LONGEST: usize = Section::MOST_EVENTS as usize * Report::EVENT_LINE_BYTES
