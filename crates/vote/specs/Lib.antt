@@ -1,4 +1,4 @@
--- What a reader must believe of a board's vote, in the order of the scope paper: what a board holds, how it starts and
+-- What a reader must believe of a board's vote, in this order: what a board holds, how it starts and
 -- what reaches it (Boards), its turns (Ballots, Rule, Turns), and a decision by announcement (Announcements); then any list
 -- of these, and what holds of a board's whole life (Calls, Life). Acts says a second time what a turn is, in words of its own, and
 -- Examples what comes of some. What private calls alone promise by stands apart, and last (Private).
