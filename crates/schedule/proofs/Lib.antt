@@ -2,7 +2,6 @@
 -- of a file is looked at (PrefixLaws), of the two sections and the whole file (SectionLaws, FileLaws), of what is printed
 -- (PrintLaws) and of playing a file that was read (PlayLaws). Then the second text of a file's answer (StopLaws), the worked
 -- examples (ExampleLaws), and what is claimed of every file (ClaimLaws).
-pub mod ExampleLaws
 pub mod FaultLaws
 pub mod ReadingLaws
 pub mod LayoutLaws
@@ -12,5 +11,6 @@ pub mod FileLaws
 pub mod PrintLaws
 pub mod PlayLaws
 pub mod StopLaws
+pub mod ExampleLaws
 pub mod ClaimLaws
 pub mod Rules

@@ -107,7 +107,8 @@ impl Report {
         Ok(length)
     }
 
-    // The same, with room for any report.
+    /// Reads a file, plays it, and writes what is to be printed of it to the start of a buffer that has room for any report, so
+    /// there is no error; hands back how many bytes that is. `Report::write` is for buffers of other lengths.
     pub fn print(file: &[u8], out: &mut [u8; Report::LONGEST]) -> usize
         ensures fits { result ≤ length out.new }
         ensures text { take result out.new ≡ printed limits file.now }
