@@ -37,11 +37,32 @@ def closing(text, at):
     return len(text)
 
 
+FOR_TESTS = re.compile(r'#\s*\[\s*(test|cfg\s*\(\s*test\s*\))\s*\]')
+
+
+def attributes(text, at):
+    """The attributes that stand before a place."""
+    found = ''
+    while text[:at].rstrip().endswith(']'):
+        end = len(text[:at].rstrip())
+        deep = 0
+        for at in range(end - 1, -1, -1):
+            deep += (text[at] == ']') - (text[at] == '[')
+            if not deep:
+                break
+        at = text.rfind('#', 0, at)
+        if at < 0:
+            break
+        found = text[at:end] + found
+    return found
+
+
 def blocks(text):
-    """(start, end, word, what it is of, whether it is open) of each impl, trait and module with a body."""
-    for head in re.finditer(r'((?:#\[[^\]]*\]\s*)*)(\bpub\s+)?\b(impl|trait|mod)\b([^;{]*)\{', text):
-        name = re.sub(r'\s+', ' ', head[4]).strip()
-        yield head.end(), closing(text, head.end() - 1), head[3], name, bool(head[2]), 'test' in head[1]
+    """(start, end, word, what it is of, whether it is open, whether it is for tests) of each impl, trait and module with a body."""
+    for head in re.finditer(r'(\bpub\s+)?\b(impl|trait|mod)\b([^;{]*)\{', text):
+        name = re.sub(r'\s+', ' ', head[3]).strip()
+        for_tests = FOR_TESTS.search(attributes(text, head.start())) is not None
+        yield head.end(), closing(text, head.end() - 1), head[2], name, bool(head[1]), for_tests
 
 
 def functions(raw):
@@ -50,8 +71,7 @@ def functions(raw):
     around = list(blocks(text))
     for head in re.finditer(r'(\bpub\s+)?((?:\b(?:const|unsafe|extern\s+)\s*)*)\bfn\s+(\w+)', text):
         inside = [block for block in around if block[0] <= head.start() < block[1]]
-        before = text[:head.start()].rsplit('}', 1)[-1].rsplit(';', 1)[-1]
-        if any(block[5] for block in inside) or re.search(r'#\[[^\]]*\btest\b', before):
+        if any(block[5] for block in inside) or FOR_TESTS.search(attributes(text, head.start())):
             continue
         near = max(inside, default=None)
         in_open_trait = near is not None and near[2] == 'trait' and near[4]
@@ -61,7 +81,7 @@ def functions(raw):
             if clause and not text[at - 1].isalnum():
                 end = closing(text, clause.end())
                 arrow = (arrow[0], arrow[1] or at) if arrow else None
-                clauses.append(Clause(clause[1], clause[3], raw[clause.end() + 1:end - 1]))
+                clauses.append(Clause(clause[1], clause[3], text[clause.end() + 1:end - 1]))
                 at = end
             elif text.startswith('->', at):
                 arrow, at = (at + 2, None), at + 2
