@@ -1,5 +1,5 @@
 -- Laws of counting among 1 to n. Assumes nothing.
-use Prim.Native.Nat.{ℕ, zero, suc, ◌+◌, ◌≤◌, ◌<◌, min}
+use Prim.Native.Nat.{ℕ, zero, suc, ◌+◌, ◌*◌, ◌≤◌, ◌<◌, min}
 use mathlib.Core.Path.{◌≡◌, refl, sym, ap, ap₂, ◌∙◌}
 use mathlib.Core.Bool.{Bool, true, false, true≢false}
 use native.Mathlib.Omega.{arith}
@@ -8,7 +8,7 @@ use borrow.Author.Tests.{eqb-true, eq-eqb}
 use lib.Dec.{eqb}
 use Rattle.delivery.specs.Tests.{◌and◌, ◌or◌}
 use Rattle.delivery.specs.Counting.{plus, count_in, every_in}
-use Rattle.delivery.specs.Bus.{quorum, overlap}
+use Rattle.delivery.specs.Bus.{faults, quorum, overlap}
 use Rattle.delivery.proofs.TestLaws.{and_left, and_right, and_in, same_test}
 
 -- tests that agree count the same
@@ -177,6 +177,11 @@ count-beyond (suc n) b p h = go (dec_le (suc n) b) (count-beyond n b p h)
     go (no g) ih =
         let e : min n b ≡ min (suc n) b = omega arith in
         ap (λ (t : Bool). plus t (count_in n p)) (h (suc n) (omega arith)) ∙ ih ∙ ap (λ (m : ℕ). count_in m p) e
+
+-- f boards are fewer than half of n, one more would not be, and q and e are the others
+pub sizes-fit : (n : ℕ) → 1 ≤ n
+    → (2 * faults n < n) × (n ≤ 2 * (faults n + 1)) × (quorum n + faults n ≡ n) × (overlap n + 2 * faults n ≡ n)
+sizes-fit n h = (omega arith, omega arith, omega arith, omega arith)
 
 -- two quorums have e more than all boards together, so they share e boards; e is 1 or more, and at most q
 pub quorums-meet : (n : ℕ) → n + overlap n ≤ quorum n + quorum n

@@ -1,9 +1,10 @@
 -- Laws of rounds, their coordinators and their identifiers. Assumes nothing.
-use Prim.Native.Nat.{ℕ, suc, ◌-◌, ◌*◌, ◌≤◌, ◌<◌}
+use Prim.Native.Nat.{ℕ, suc, ◌+◌, ◌-◌, ◌*◌, ◌/◌, ◌≤◌, ◌<◌}
 use mathlib.Core.Path.{◌≡◌, refl, sym, ap, ◌∙◌}
 use mathlib.Core.Bool.{true, false}
 use native.Mathlib.Omega.{arith}
 use native.Mathlib.Nat.{mod-lt}
+use Rattle.std.proofs.lemmas.Nat.{div-add-mod'}
 use borrow.Author.Tests.{lt-ltb}
 use lib.Dec.{ltb}
 use Rattle.signer.proofs.ConditionalLaws.{if-true, if-false}
@@ -18,6 +19,14 @@ use Rattle.delivery.specs.declared.round.Phase.TheVariants.{Opening, Ballot}
 pub coordinator-in : (n r : ℕ) → 1 ≤ n → (1 ≤ coordinator n r) × (coordinator n r ≤ n)
 unfolding coordinator
 coordinator-in n r h = (omega arith, omega (arith, mod-lt (r - 1) h))
+
+-- and they take turns: the rounds before r are whole turns of n, and then one for each board before its coordinator
+pub coordinator-turns : (n r : ℕ) → 1 ≤ n → 1 ≤ r
+    → (1 ≤ coordinator n r) × (coordinator n r ≤ n) × ((m : ℕ) × (r ≡ m * n + coordinator n r))
+unfolding coordinator
+coordinator-turns n r h l =
+    let c : (1 ≤ coordinator n r) × (coordinator n r ≤ n) = coordinator-in n r h in
+    (c.0, c.1, ((r - 1) / n, omega (arith, div-add-mod' (r - 1) n)))
 
 -- the identifiers of a round, and of what is none
 pub identifier-at : (L : Limits) (p : Phase) (r : ℕ) → is_round L r ≡ true → identifier_of L p r ≡ phase_of p r

@@ -1,12 +1,12 @@
 -- What holds of every store, of every number of boards and every round, and of every record of owed copies; src/claims
--- promises it. Acceptance stands here a second time, in propositions: not by tests of lists, but by what was said and by
--- how many of some speakers' accepted ballots bear a value.
+-- promises it. Sizes, coordinators and acceptance stand here a second time, acceptance in propositions: not by tests of
+-- lists, but by what was said and by how many of some speakers' accepted ballots bear a value.
 use Rattle.std.specs.Prelude.{ℕ, suc, ◌+◌, ◌*◌, ◌≡◌, ◌≤◌, ◌<◌, Bool, true, false, length, ◌⊎◌, ◌↔◌}
 use Rattle.signer.specs.Log.{is_identifier}
 use Rattle.delivery.specs.Tests.{◌and◌}
 use Rattle.delivery.specs.Counting.{count_in}
 use Rattle.delivery.specs.Limits.{Limits, limits}
-use Rattle.delivery.specs.Bus.{is_board, quorum, overlap}
+use Rattle.delivery.specs.Bus.{is_board, faults, quorum, overlap}
 use Rattle.delivery.specs.Rounds.{coordinator, identifier_of}
 use Rattle.delivery.specs.Sets.{in_set, bits}
 use Rattle.delivery.specs.Delivered.{Store, heard, nothing_delivered, deliver}
@@ -15,6 +15,28 @@ use Rattle.delivery.specs.Acceptance.{allowed, accepts_opening, accepts_ballot, 
 use Rattle.delivery.specs.declared.round.Phase.TheVariants.{Opening, Ballot}
 use Rattle.delivery.specs.declared.delivered.Delivered.{Delivered}
 use Rattle.delivery.specs.declared.owed.Owed.{Owed}
+
+-- The sizes of n boards a second time: f is the most boards that are fewer than half (one more would not be), a quorum is all
+-- but f of them, and e all but twice f.
+abbrev pub SizesFit : Type 0
+SizesFit =
+    (n : ℕ)
+    → 1 ≤ n
+    → (2 * faults n < n)
+    × (n ≤ 2 * (faults n + 1))
+    × (quorum n + faults n ≡ n)
+    × (overlap n + 2 * faults n ≡ n)
+
+-- And coordinators: each is a board of the bus, and a round comes as many whole turns of n rounds (m) after the one that has
+-- its coordinator's number.
+abbrev pub TakesTurns : Type 0
+TakesTurns =
+    (n r : ℕ)
+    → 1 ≤ n
+    → 1 ≤ r
+    → (1 ≤ coordinator n r)
+    × (coordinator n r ≤ n)
+    × ((m : ℕ) × (r ≡ m * n + coordinator n r))
 
 -- two quorums of n boards share e of them or more, and that is one at least
 abbrev pub QuorumsShare : Type 0

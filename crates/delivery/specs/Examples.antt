@@ -32,6 +32,13 @@ letter-a = (
   (refl, refl, refl),
 )
 
+-- and of the other buses that there can be: of 5 and of 6 boards
+abbrev pub OtherSizes : Type 0
+OtherSizes = (Sizes 5 2 3 1) × (Sizes 6 2 4 2)
+
+pub other-sizes : OtherSizes
+other-sizes = ((refl, refl, refl), (refl, refl, refl))
+
 -- letter b: the coordinators of rounds 1 to 4 among three boards
 abbrev pub LetterB : Type 0
 LetterB = (coordinator 3 1 ≡ 1) × (coordinator 3 2 ≡ 2) × (coordinator 3 3 ≡ 3) × (coordinator 3 4 ≡ 1)

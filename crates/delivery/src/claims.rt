@@ -1,19 +1,21 @@
 ghost use Rattle.std.specs.Prelude.{◌≡◌, ◌*◌};
 ghost use Rattle.delivery.specs.Limits.{limits};
 ghost use Rattle.delivery.specs.Sets.{bits};
-ghost use Rattle.delivery.specs.Claims.{QuorumsShare, OneShared, Openings, Ballots, SomeBallots, FirstRound, LaterRounds, MoreSpeakers, OneOpening, OneWon, OnlyLater, AcceptanceGrows};
+ghost use Rattle.delivery.specs.Claims.{SizesFit, TakesTurns, QuorumsShare, OneShared, Openings, Ballots, SomeBallots, FirstRound, LaterRounds, MoreSpeakers, OneOpening, OneWon, OnlyLater, AcceptanceGrows};
 ghost use Rattle.delivery.specs.Claims.{NothingDelivered, DeliveryKeeps, DeliveryAdds, DeliveryOnly, NothingOwed, SigningOwes, DeliveryOwes, OthersOwed, SetsStay};
-ghost use Rattle.delivery.specs.Examples.{LetterA, LetterB, LetterC, LetterE, LetterF, LetterG, LetterH, LetterI, LetterJ, LetterK, Coordinators, Identifiers, NextRounds, Masks, Places, Copies};
+ghost use Rattle.delivery.specs.Examples.{LetterA, LetterB, LetterC, LetterE, LetterF, LetterG, LetterH, LetterI, LetterJ, LetterK, OtherSizes, Coordinators, Identifiers, NextRounds, Masks, Places, Copies};
 
 use crate::delivered::Delivered;
 use crate::round::Round;
 use crate::set::BoardSet;
 use signer::Identifier;
 
-/// What holds of every store, whatever is in it, of every number of boards and every round: acceptance says what its sentences
-/// say, it grows with what is delivered, and what q or more accepted ballots bear is one value. There is nothing to do: these
-/// are claims about the words of the contracts.
+/// What holds of every store, whatever is in it, of every number of boards and every round: sizes, coordinators and acceptance
+/// are what their sentences say, acceptance grows with what is delivered, and what q or more accepted ballots bear is one
+/// value. There is nothing to do: these are claims about the words of the contracts.
 pub fn every_store()
+    ensures sizes { SizesFit }
+    ensures turns { TakesTurns }
     ensures quorums { QuorumsShare }
     ensures shared { OneShared }
     ensures openings { Openings }
@@ -52,8 +54,8 @@ pub fn every_limit()
     ensures width { BoardSet.BITS ≡ bits }
 {}
 
-/// The worked examples, computed: letters a to c and e to k, and beside them coordinators, identifiers and the rounds after
-/// rounds, sets, the places of statements, and owed copies.
+/// The worked examples, computed: letters a to c and e to k, and beside them the sizes of other buses, coordinators,
+/// identifiers and the rounds after rounds, sets, the places of statements, and owed copies.
 pub fn worked_examples()
     ensures letter_a { LetterA }
     ensures letter_b { LetterB }
@@ -65,6 +67,7 @@ pub fn worked_examples()
     ensures letter_i { LetterI }
     ensures letter_j { LetterJ }
     ensures letter_k { LetterK }
+    ensures other_sizes { OtherSizes }
     ensures coordinators { Coordinators }
     ensures identifiers { Identifiers }
     ensures next_rounds { NextRounds }

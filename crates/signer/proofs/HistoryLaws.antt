@@ -236,10 +236,7 @@ module _ (limit : ℕ) (rs : List Request) where
       → (after limit (fresh_signer limit) (rs ++ r ∷ ys) ≡ after limit (fresh_signer limit) (rs ++ ys))
       × (history limit (fresh_signer limit) (rs ++ r ∷ ys)
       ≡ history limit (fresh_signer limit) rs ++ (r, false) ∷ history limit (after limit (fresh_signer limit) rs) ys)
-      × (history limit (fresh_signer limit) (rs ++ ys)
-      ≡ history limit (fresh_signer limit) rs ++ history limit (after limit (fresh_signer limit) rs) ys)
   fresh-skipped ys r h = (
     after-skips limit (fresh_signer limit) rs r ys (refused r h),
     history-skips limit (fresh_signer limit) rs r ys (refused r h),
-    history-append limit (fresh_signer limit) rs ys,
   )

@@ -8,7 +8,7 @@ use Rattle.signer.specs.declared.signer.Signer.{Signer}
 abbrev pub asked : List Request → Signer
 asked rs = after identifiers (fresh_signer identifiers) rs
 
--- each of them with its answer, and each of some more
+-- each of them with its answer, and after them each of some more
 abbrev pub answered : List Request → List (Request × Bool)
 answered rs = history identifiers (fresh_signer identifiers) rs
 
@@ -61,14 +61,15 @@ Granted =
 abbrev pub BlankStands : Type 0
 BlankStands = (rs : List Request) (i : ℕ) → StandsAfter rs i 0 → entry_at (asked rs).log i ≡ 0 → ⊥
 
--- a refused request changes nothing, and every later answer is as if it had never been made
+-- a refused request changes nothing
 abbrev pub Unchanged : Type 0
 Unchanged = (rs : List Request) (r : Request) → IsRefused rs r → (ask identifiers (asked rs) r).signer ≡ asked rs
 
+-- and is skipped: after more requests the signer is as it would be without it, and they get the answers that they get where
+-- they are asked right after those before it
 abbrev pub Skipped : Type 0
 Skipped =
     (rs more : List Request) (r : Request)
     → IsRefused rs r
     → (asked (rs ++ r ∷ more) ≡ asked (rs ++ more))
     × (answered (rs ++ r ∷ more) ≡ answered rs ++ (r, false) ∷ answered_after rs more)
-    × (answered (rs ++ more) ≡ answered rs ++ answered_after rs more)

@@ -151,7 +151,9 @@ impl Position {
     #[tactic(auto, using(crate::proofs::Rules::rules_position_position_rule), unfolding(crate::specs::Rule::rule, crate::specs::Rule::move_at))]
     pub fn rule(&self, n: u8, me: u8, delivered: &Delivered) -> Move
         ensures moved { result ≡ rule limits n me self.now (heard limits delivered.now) }
-        ensures said { 1 ≤ n → OfValues (heard limits delivered.now) → Acts n me self.now (heard limits delivered.now) result }
+        ensures said { 1 ≤ n
+            → OfValues (heard limits delivered.now)
+            → Acts n me self.now (heard limits delivered.now) result }
     {
         let outlook = Outlook {
             n,

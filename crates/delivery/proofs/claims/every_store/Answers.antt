@@ -1,7 +1,14 @@
 -- Each claim is a law. Assumes nothing.
-use Rattle.delivery.proofs.CountLaws.{quorums-share, overlap-pos}
+use Rattle.delivery.proofs.CountLaws.{sizes-fit, quorums-share, overlap-pos}
+use Rattle.delivery.proofs.RoundLaws.{coordinator-turns}
 use Rattle.delivery.proofs.ClaimLaws as claim
 use Rattle.delivery.proofs.claims.every_store.Goals as goal
+
+pub returns-clause-sizes : goal.returns-clause-sizes
+returns-clause-sizes c = sizes-fit
+
+pub returns-clause-turns : goal.returns-clause-turns
+returns-clause-turns c = coordinator-turns
 
 pub returns-clause-quorums : goal.returns-clause-quorums
 returns-clause-quorums c = quorums-share

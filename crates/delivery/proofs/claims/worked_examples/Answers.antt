@@ -1,5 +1,5 @@
 -- Each example is computed, beside its statement or by a law. Assumes nothing.
-use Rattle.delivery.specs.Examples.{letter-a, letter-b, letter-c, coordinators, identifiers_of_rounds, next-rounds, masks, places, copies}
+use Rattle.delivery.specs.Examples.{letter-a, letter-b, letter-c, other-sizes, coordinators, identifiers_of_rounds, next-rounds, masks, places, copies}
 use Rattle.delivery.proofs.ExampleLaws.{letter-e, letter-f, letter-g, letter-h, letter-i, letter-j, letter-k}
 use Rattle.delivery.proofs.claims.worked_examples.Goals as goal
 
@@ -32,6 +32,9 @@ returns-clause-letter_j c = letter-j
 
 pub returns-clause-letter_k : goal.returns-clause-letter_k
 returns-clause-letter_k c = letter-k
+
+pub returns-clause-other_sizes : goal.returns-clause-other_sizes
+returns-clause-other_sizes c = other-sizes
 
 pub returns-clause-coordinators : goal.returns-clause-coordinators
 returns-clause-coordinators c = coordinators
