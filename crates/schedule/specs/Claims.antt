@@ -30,7 +30,7 @@ abbrev pub LookedAt : Type 0
 LookedAt = (bs : List ℕ) → file_due limits (take (longest_file limits + 1) bs) ≡ file_due limits bs
 
 -- A file that is taken gets its fresh bench. The report is a line for each event, with the answer, and one for each board,
--- as the bench then shows it; and of these answers and this bench, agreement is so.
+-- as the bench then shows it, as Prints has it; and of these answers and this bench, agreement is so.
 pub record Plays (f : Contents) (text : List ℕ) : Type 0 where
   pub made : fresh_answer limits (length f.marks) f.marks ≡ Ok tt
   pub report : let c = first_bench limits f in
