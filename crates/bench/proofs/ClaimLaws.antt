@@ -1,5 +1,5 @@
 -- Every list of events keeps its bench fit, tells what the bench shows, and has its values from sound boards or faulty
--- coordinators; so demand 3 holds of it. Assumes nothing.
+-- coordinators; so agreement holds of it. Assumes nothing.
 use Prim.Native.Nat.{ℕ, zero, suc, ◌≤◌}
 use native.Mathlib.Omega.{arith}
 use mathlib.Core.Path.{◌≡◌, refl, sym, ap, subst, subst⁻¹, ◌∙◌}
@@ -276,7 +276,7 @@ module _ (L : Limits) (S : Setup) (g : Ground L S) where
       λ s i. ap (λ (t : Standing). t.heard s i) (sym (y.tells.stands k)),
     )
 
--- demand 3, of any bench and history of which this is sure
+-- agreement, of any bench and history of which this is sure
 pub sure-agrees : (L : Limits) (n : ℕ) (marks : List ℕ) → Ground L (setup L n marks) → (H : History) (c : Bench)
     → Sure L (setup L n marks) H c → Agreement L n marks H c
 unfolding fresh_of fresh_bench bench_of

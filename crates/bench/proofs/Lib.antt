@@ -1,6 +1,7 @@
--- The three demands stand in Demands. Before it, in the order in which they rest on one another: laws of the machine, of
--- histories, of one accepted event, of what is read off the bench after it, and of every list of events. After it, what the
--- walks of calls on a lent bench go by.
+-- What is claimed of every list of events is shown in Demands. Before it, in the order in which they rest on one another: laws
+-- of the machine, of histories, of one accepted event, of what is read off the bench after it, and of every list of events.
+-- After it, what the walks of calls on a lent bench go by; that the table's two texts say the same (AppliesLaws), and those of
+-- the call for a fresh bench (MakingLaws); and the rules by which private calls are proved.
 pub mod TableLaws
 pub mod TurnLaws
 pub mod EffectLaws

@@ -18,7 +18,8 @@ const ROOM: usize = Schedule::LONGEST + 1;
 fn run<R: Read, W: Write>(reader: &mut R, writer: &mut W) -> io::Result<()>
     ensures written { OnOk result (IfSome (R.remaining reader.old)
         (λ file. Appends (W.contents writer.old) (W.contents writer.new) (printed limits file))) }
-    ensures reported { OnOk result ((file : List ℕ) × Appends (W.contents writer.old) (W.contents writer.new) (printed limits file)) }
+    ensures reported { OnOk result ((file : List ℕ)
+        × Appends (W.contents writer.old) (W.contents writer.new) (printed limits file)) }
 {
     let mut file = ArrayVec::<u8, ROOM>::new();
     io::copy(&mut reader.take(ROOM as u64), &mut file)?;

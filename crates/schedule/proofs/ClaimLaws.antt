@@ -20,12 +20,10 @@ use Rattle.schedule.specs.Stops.{Answered}
 use Rattle.schedule.specs.Claims.{ReadExactly, LookedAt, Plays, Reporting}
 use Rattle.schedule.specs.declared.fault.Fault.{Fault}
 use Rattle.schedule.proofs.FaultLaws.{fault-row}
-use Rattle.schedule.proofs.ReadingLaws.{answer-fault}
 use Rattle.schedule.proofs.LayoutLaws.{file-laid, file-read}
 use Rattle.schedule.proofs.StopLaws.{answered-number}
 use Rattle.schedule.proofs.PrefixLaws.{enough-read}
 use Rattle.schedule.proofs.PrintLaws.{decimal-one}
-use Rattle.schedule.proofs.PlayLaws.{refused-print}
 
 -- a text ends with a line end
 abbrev Ended : List ℕ → Type 0
@@ -116,7 +114,6 @@ pub reporting : Reporting
 reporting bs =
     record {
       taken = plays bs;
-      unread = λ w t. (refused-print limits bs w (answer-fault (file_due limits bs) w t)).0;
       refused = refused bs;
       ends = ended bs;
     }

@@ -82,11 +82,10 @@ file-taken L bs s u t = go (file_due L bs) refl t
         let is : s ≡ schedule_in L f = cc in
         record { file = f; rest = cs; due = g; read = is; holds = l.1; whole = l.0 (bytes_of bs u) }
 
--- or it was refused, and then has nothing to play, and prints a line
-pub refused-print : (L : Limits) (bs : List ℕ) (w : Fault) → file_due L bs ≡ fault w
-    → (schedule_of L bs ≡ Err w) × (printed L bs ≡ refused_line w)
-unfolding schedule_from printed_from
-refused-print L bs w e = (ap (schedule_from L) e, ap (printed_from L) e)
+-- or it was refused, and then prints a line
+pub refused-print : (L : Limits) (bs : List ℕ) (w : Fault) → file_due L bs ≡ fault w → printed L bs ≡ refused_line w
+unfolding printed_from
+refused-print L bs w e = ap (printed_from L) e
 
 pub file-fault : (L : Limits) (bs : List ℕ) (w : Fault) → schedule_of L bs ≡ Err w → file_due L bs ≡ fault w
 unfolding schedule_from

@@ -10,7 +10,7 @@ use lib.ListN.{length}
 use Rattle.std.specs.Prelude.{if◌then◌else◌, Ok, Err}
 use Rattle.signer.proofs.ConditionalLaws.{if-true, if-false}
 use Rattle.delivery.proofs.TestLaws.{decided}
-use Rattle.schedule.specs.Files.{Reading, got, fault, next, byte_due, many_due, answer_of}
+use Rattle.schedule.specs.Files.{Reading, got, fault, next, byte_due, many_due}
 use Rattle.schedule.specs.declared.fault.Fault.{Fault}
 use Rattle.schedule.specs.declared.fault.Fault.TheVariants.{EndsEarly}
 
@@ -42,12 +42,6 @@ fault-value {A} w v e = ap value e
     value : Reading A → Fault
     value (Ok (z, ds)) = w
     value (Err u) = u
-
--- what was refused met that fault
-pub answer-fault : {A : Type 0} (p : Reading A) (w : Fault) → answer_of p ≡ Err w → p ≡ fault w
-unfolding answer_of
-answer-fault (Ok (x, bs)) w e = let z : ◌≡◌ {A = ℕ} 0 1 = cc in absurd (omega arith)
-answer-fault (Err v) w e = let same : v ≡ w = cc in ap fault same
 
 module _ {A B : Type 0} (f : A → List ℕ → Reading B) where
   -- to read on after something is what is read there, and after a fault is the fault

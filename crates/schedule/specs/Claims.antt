@@ -1,6 +1,6 @@
 -- What is claimed of every list of bytes. src/claims shows it, with nothing assumed, and the calls that report a file promise
 -- of it what concerns them.
-use Rattle.std.specs.Prelude.{ℕ, ◌+◌, ◌<◌, ◌≡◌, List, [], ◌∷◌, ◌++◌, ◌↔◌, length, take, codes, Ok, Err}
+use Rattle.std.specs.Prelude.{ℕ, ◌+◌, ◌<◌, ◌≡◌, List, [], ◌∷◌, ◌++◌, ◌↔◌, length, take, codes, Ok}
 use Rattle.delivery.specs.Limits.{limits}
 use Rattle.bench.specs.Setups.{fresh_answer}
 use Rattle.bench.specs.Runs.{after, answers_to}
@@ -9,9 +9,7 @@ use Rattle.bench.specs.Claim.{Agreement}
 use Rattle.schedule.specs.Files.{file_number, got, Contents, first_bench, file_due, answer_of, longest_file}
 use Rattle.schedule.specs.Layouts.{laid, Bytes, Holdable}
 use Rattle.schedule.specs.Stops.{Answered}
-use Rattle.schedule.specs.Readings.{schedule_of}
 use Rattle.schedule.specs.Prints.{event_lines, board_lines, printed, longest_print}
-use Rattle.schedule.specs.declared.fault.Fault.{Fault}
 
 -- the number that a file is answered with
 abbrev pub number_of : List ℕ → ℕ
@@ -32,7 +30,7 @@ abbrev pub LookedAt : Type 0
 LookedAt = (bs : List ℕ) → file_due limits (take (longest_file limits + 1) bs) ≡ file_due limits bs
 
 -- A file that is taken gets its fresh bench. The report is a line for each event, with the answer, and one for each board,
--- as the bench then shows it; and of these answers and this bench, agreement is so.
+-- as the bench then shows it, as Prints has it; and of these answers and this bench, agreement is so.
 pub record Plays (f : Contents) (text : List ℕ) : Type 0 where
   pub made : fresh_answer limits (length f.marks) f.marks ≡ Ok tt
   pub report : let c = first_bench limits f in
@@ -40,11 +38,10 @@ pub record Plays (f : Contents) (text : List ℕ) : Type 0 where
   pub agreement : let c = first_bench limits f in
       Agreement limits (length f.marks) f.marks (history_of f.events (answers_to limits c f.events)) (after limits c f.events)
 
--- One that is refused has nothing to play, and its report is the word `refused`, a space, the digit of its number and the line
--- end. Either way a report ends with a line end, so there is always one.
+-- The report of one that is refused is the word `refused`, a space, the digit of its number and the line end, and nothing else.
+-- Either way a report ends with a line end, so there is always one.
 pub record Reports (bs text : List ℕ) : Type 0 where
   pub taken : (f : Contents) (rest : List ℕ) → file_due limits bs ≡ got f rest → Plays f text
-  pub unread : (w : Fault) → answer_of (file_due limits bs) ≡ Err w → schedule_of limits bs ≡ Err w
   pub refused : (m : ℕ) → 0 < m → Answered bs m → text ≡ codes "refused " ++ (48 + m) ∷ codes "\n"
   pub ends : (front : List ℕ) × (text ≡ front ++ codes "\n")
 

@@ -1,8 +1,9 @@
-ghost use Rattle.std.specs.Prelude.{◌≡◌, IfOk, IfErr};
+ghost use Rattle.std.specs.Prelude.{ℕ, ◌<◌, ◌≡◌, Err, IfOk, IfErr};
 ghost use Rattle.delivery.specs.Limits.{limits};
 ghost use Rattle.schedule.specs.Files.{fault_number};
 ghost use Rattle.schedule.specs.Readings.{schedule_of};
 ghost use Rattle.schedule.specs.Stops.{Answered};
+ghost use Rattle.schedule.specs.declared.fault.Fault.{Fault};
 
 use crate::bus::Bus;
 use crate::fault::Fault;
@@ -30,6 +31,8 @@ impl Schedule {
         ensures meaning { result ≡ schedule_of limits file.now }
         ensures taken { IfOk result (λ read. Answered file.now 0) }
         ensures refused { IfErr result (λ fault. Answered file.now (fault_number fault)) }
+        ensures numbered { (m : ℕ) → 0 < m → Answered file.now m
+            → (fault : Fault) × ((result ≡ Err fault) × (fault_number fault ≡ m)) }
     {
         let bus = Bus::read(file)?;
         let at = 1 + bus.n as usize;

@@ -19,7 +19,8 @@ pub fn play(
 ) -> Played
     ensures played { result ≡ played_of limits n marks (take (event_bytes * count) events.now) (length answers.old) }
     ensures answers { answers.new ≡ answers_after limits n marks (take (event_bytes * count) events.now) answers.old }
-    ensures agreement { Agreement limits n marks (played_history (take (event_bytes * count) events.now) answers.new) result.bench }
+    ensures agreement { Agreement limits n marks
+        (played_history (take (event_bytes * count) events.now) answers.new) result.bench }
 {
     let end = Event::BYTES * count as usize;
     Bench::play(n, marks, &events[..end.min(events.len())], answers)

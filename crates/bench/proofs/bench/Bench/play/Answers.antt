@@ -1,4 +1,4 @@
--- `Bench::play` meets its contract: how the list went says what was played, and agreement is demand 3 of those events.
+-- `Bench::play` meets its contract: how the list went says what was played, and of those events agreement holds.
 -- Assumes nothing.
 use Prim.Native.Nat.{ℕ, ◌/◌, ◌≤◌}
 use native.Mathlib.Omega.{arith}
@@ -25,7 +25,7 @@ use Rattle.bench.proofs.Demands.{agreed}
 use Rattle.bench.proofs.bench.Bench.play.Goals as goal
 use Rattle.bench.proofs.bench.Bench.play.Goals.{then-is_ok, else-is_ok}
 
--- the history that stands in the buffer is that of the events that were played, so demand 3 holds of it
+-- the history that stands in the buffer is that of the events that were played, so agreement holds of it
 agrees-played : (n : ℕ) (marks bs room : List ℕ)
     → Agreement
     limits

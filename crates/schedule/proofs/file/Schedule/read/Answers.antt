@@ -1,6 +1,6 @@
 -- `Schedule::read` meets its contract: the second section begins after the first, and what is longer than both goes on
 -- after the last event. Assumes nothing.
-use Prim.Native.Nat.{ℕ, ◌-◌}
+use Prim.Native.Nat.{ℕ, ◌-◌, ◌<◌}
 use native.Mathlib.Omega.{arith}
 use borrow.Author.Rules.{part_to_end}
 use mathlib.Core.Path.{◌≡◌, sym, ◌∙◌}
@@ -15,7 +15,7 @@ use Rattle.schedule.specs.declared.fault.Fault.{Fault}
 use Rattle.schedule.specs.Stops.{Answered}
 use Rattle.schedule.specs.declared.file.Schedule.{Schedule}
 use Rattle.schedule.specs.declared.section.Section.{Section}
-use Rattle.schedule.proofs.StopLaws.{read-answered}
+use Rattle.schedule.proofs.StopLaws.{read-answered, read-fault}
 use Rattle.schedule.proofs.FileLaws.{schedule-front, section-within, schedule-back, events-within, schedule-over, schedule-there}
 use Rattle.schedule.proofs.file.Schedule.read.Goals as goal
 
@@ -31,10 +31,11 @@ Told bs r =
       meaning : r ≡ schedule_of limits bs;
       taken : IfOk r (λ s. Answered bs 0);
       refused : IfErr r (λ w. Answered bs (fault_number w));
+      numbered : (m : ℕ) → 0 < m → Answered bs m → (w : Fault) × ((r ≡ Err w) × (fault_number w ≡ m));
     }
 
 told : (bs : List ℕ) {r : Result Schedule Fault} → r ≡ schedule_of limits bs → Told bs r
-told bs {r} e = let a = read-answered bs r e in record { meaning = e; taken = a.0; refused = a.1 }
+told bs {r} e = let a = read-answered bs r e in record { meaning = e; taken = a.0; refused = a.1; numbered = read-fault bs r e }
 
 pub returns-in_err-bus : goal.returns-in_err-bus
 returns-in_err-bus c =

@@ -21,7 +21,7 @@ pub returns-in_err-bus-clause-text : goal.returns-in_err-bus-clause-text
 returns-in_err-bus-clause-text c =
     let bs = c.args.file.now in
     let failed : c.from_residual.result ≡ Err c.in_err-bus.field-0.0 = search rules in
-    ap (report_text limits) failed ∙ sym (refused-print limits bs _ (file-fault limits bs _ (sym c.read.ensures.meaning ∙ c.in_err-bus.was))).1
+    ap (report_text limits) failed ∙ sym (refused-print limits bs _ (file-fault limits bs _ (sym c.read.ensures.meaning ∙ c.in_err-bus.was)))
 
 pub returns-clause-text : goal.returns-clause-text
 returns-clause-text c =
