@@ -1,4 +1,4 @@
--- The examples of specs/Examples about acceptance, for every value. Assumes nothing.
+-- The examples of specs/Examples: those that compute, and then those about acceptance, for every value. Assumes nothing.
 use Prim.Native.Nat.{ℕ, ◌≤◌}
 use native.Mathlib.Omega.{arith}
 use mathlib.Core.Path.{◌≡◌, refl, sym, ap, ◌∙◌}
@@ -10,17 +10,65 @@ use Rattle.signer.specs.Log.{entry_of}
 use Rattle.delivery.specs.Tests.{◌and◌, ◌or◌, neg}
 use Rattle.delivery.specs.Counting.{plus, count_in}
 use Rattle.delivery.specs.Limits.{limits}
-use Rattle.delivery.specs.Rounds.{coordinator, phase_of, identifier_of}
-use Rattle.delivery.specs.Delivered.{place_of, heard_in, nothing_delivered, heard, deliver}
+use Rattle.delivery.specs.Rounds.{coordinator, phase_of, identifier_of, next_round}
+use Rattle.delivery.specs.Sets.{in_set, set_of, with_board, without_board, union, minus}
+use Rattle.delivery.specs.Delivered.{place_of, index_at, index_of, heard_in, nothing_delivered, heard, deliver}
+use Rattle.delivery.specs.Owed.{no_copies, receivers_at, with_receivers_at, nothing_owed, copies_of, with_copies, receivers, with_receivers, lacks, after_signing, after_delivery}
 use Rattle.delivery.specs.Acceptance.{says, bears, backs, allowed}
 use Rattle.delivery.specs.Private.{lets}
 use Rattle.delivery.specs.declared.allowance.Allowance.{Allowance}
 use Rattle.delivery.specs.declared.allowance.Allowance.TheVariants.{Nothing, Every, Only}
-use Rattle.delivery.specs.Examples.{nine-blank, blank-blank, nine-blank-blank, nine-alone, nine-nine-blank, unopened, LetterE, LetterF, LetterG, LetterH, LetterI, LetterJ, LetterK}
+use Rattle.delivery.specs.Examples.{nine-blank, blank-blank, nine-blank-blank, nine-alone, nine-nine-blank, unopened, LetterA, LetterB, LetterC, OtherSizes, Coordinators, Identifiers, NextRounds, Masks, Places, Copies, LetterE, LetterF, LetterG, LetterH, LetterI, LetterJ, LetterK}
 use Rattle.delivery.specs.declared.delivered.Delivered.{Delivered}
 use Rattle.delivery.proofs.TestLaws.{same_test}
 use Rattle.delivery.proofs.AllRoundsLaws.{opening-unsent, ballot-unopened}
 use Rattle.delivery.proofs.PassLaws.{lets-value, lets-nothing, lets-only, Counted, every_first, pass-turn}
+
+pub letter-a : LetterA
+letter-a = (
+  (refl, refl, refl),
+  (refl, refl, refl),
+  (refl, refl, refl),
+  (refl, refl, refl),
+  (refl, refl, refl),
+)
+
+pub other-sizes : OtherSizes
+other-sizes = ((refl, refl, refl), (refl, refl, refl))
+
+pub letter-b : LetterB
+unfolding coordinator
+letter-b = (refl, refl, refl, refl)
+
+pub coordinators : Coordinators
+unfolding coordinator
+coordinators = (refl, refl, refl, refl, refl)
+
+pub letter-c : LetterC
+unfolding identifier_of phase_of is_within
+letter-c = (refl, refl)
+
+pub identifiers_of_rounds : Identifiers
+unfolding identifier_of phase_of is_within
+identifiers_of_rounds = (refl, refl, refl, refl, refl, refl)
+
+pub next-rounds : NextRounds
+unfolding next_round
+next-rounds = (refl, refl, refl)
+
+pub masks : Masks
+unfolding in_set set_of with_board without_board union minus count_in plus ◌and◌ ◌or◌ neg
+masks = (refl, refl, refl, refl, refl, refl, refl, refl, refl, refl, refl, refl, refl, refl, refl)
+
+pub places : Places
+unfolding index_of index_at place_of is_within ◌and◌
+places = (refl, refl, refl, refl, refl, refl, refl, refl)
+
+pub copies : Copies
+unfolding
+    after_signing after_delivery nothing_owed no_copies receivers receivers_at with_receivers with_receivers_at copies_of with_copies
+    lacks in_set set_of nth set_nth ◌and◌ ◌or◌ neg
+copies = (refl, refl, refl, refl)
 
 -- what an allowance says of every value
 only : (v w : ℕ) → (v ≡ 0 → ⊥) → lets (Only (entry_of v)) w ≡ eqb w v

@@ -1,16 +1,14 @@
 -- Worked examples of sizes, rounds, sets, stores, owed copies and acceptance, with the numbers written out; letters a to c and
--- e to k of the bench examples are among them. Letters e to k are about every value, which takes laws, so they are shown in
--- proofs/ExampleLaws.
-use Rattle.std.specs.Prelude.{ℕ, suc, ◌≡◌, refl, Bool, true, false, eqb, None, Some}
-use Rattle.signer.specs.FromOne.{is_within, nth, set_nth}
-use Rattle.delivery.specs.Tests.{◌and◌, ◌or◌, neg}
-use Rattle.delivery.specs.Counting.{plus, count_in}
+-- e to k of the bench examples are among them. All are shown in proofs/ExampleLaws.
+use Rattle.std.specs.Prelude.{ℕ, suc, ◌≡◌, true, false, eqb, None, Some}
+use Rattle.delivery.specs.Tests.{neg}
+use Rattle.delivery.specs.Counting.{count_in}
 use Rattle.delivery.specs.Limits.{limits}
 use Rattle.delivery.specs.Bus.{faults, quorum, overlap}
-use Rattle.delivery.specs.Rounds.{coordinator, phase_of, identifier_of, next_round}
-use Rattle.delivery.specs.Sets.{in_set, set_of, with_board, without_board, union, minus}
-use Rattle.delivery.specs.Delivered.{place_of, index_at, index_of, nothing_delivered, heard, deliver}
-use Rattle.delivery.specs.Owed.{no_copies, receivers_at, with_receivers_at, nothing_owed, copies_of, with_copies, receivers, with_receivers, lacks, after_signing, after_delivery}
+use Rattle.delivery.specs.Rounds.{coordinator, identifier_of, next_round}
+use Rattle.delivery.specs.Sets.{in_set, with_board, without_board, union, minus}
+use Rattle.delivery.specs.Delivered.{index_of, nothing_delivered, heard, deliver}
+use Rattle.delivery.specs.Owed.{nothing_owed, receivers, after_signing, after_delivery}
 use Rattle.delivery.specs.Acceptance.{allowed, accepts_ballot}
 use Rattle.delivery.specs.declared.delivered.Delivered.{Delivered}
 use Rattle.delivery.specs.declared.owed.Owed.{Owed}
@@ -23,45 +21,21 @@ Sizes n f q e = (faults n ≡ f) × (quorum n ≡ q) × (overlap n ≡ e)
 abbrev pub LetterA : Type 0
 LetterA = (Sizes 1 0 1 1) × (Sizes 2 0 2 2) × (Sizes 3 1 2 1) × (Sizes 4 1 3 2) × (Sizes 7 3 4 1)
 
-pub letter-a : LetterA
-letter-a = (
-  (refl, refl, refl),
-  (refl, refl, refl),
-  (refl, refl, refl),
-  (refl, refl, refl),
-  (refl, refl, refl),
-)
-
 -- and of the other buses that there can be: of 5 and of 6 boards
 abbrev pub OtherSizes : Type 0
 OtherSizes = (Sizes 5 2 3 1) × (Sizes 6 2 4 2)
-
-pub other-sizes : OtherSizes
-other-sizes = ((refl, refl, refl), (refl, refl, refl))
 
 -- letter b: the coordinators of rounds 1 to 4 among three boards
 abbrev pub LetterB : Type 0
 LetterB = (coordinator 3 1 ≡ 1) × (coordinator 3 2 ≡ 2) × (coordinator 3 3 ≡ 3) × (coordinator 3 4 ≡ 1)
 
-pub letter-b : LetterB
-unfolding coordinator
-letter-b = (refl, refl, refl, refl)
-
 -- and of other buses: of one board, and of seven
 abbrev pub Coordinators : Type 0
 Coordinators = (coordinator 1 1 ≡ 1) × (coordinator 1 32 ≡ 1) × (coordinator 7 7 ≡ 7) × (coordinator 7 8 ≡ 1) × (coordinator 7 32 ≡ 4)
 
-pub coordinators : Coordinators
-unfolding coordinator
-coordinators = (refl, refl, refl, refl, refl)
-
 -- letter c: the identifiers of the last round; its ballot's is the highest that there is
 abbrev pub LetterC : Type 0
 LetterC = (identifier_of limits Opening 32 ≡ 63) × (identifier_of limits Ballot 32 ≡ 64)
-
-pub letter-c : LetterC
-unfolding identifier_of phase_of is_within
-letter-c = (refl, refl)
 
 -- those of the first round, and that what is no round has none, which is 0
 abbrev pub Identifiers : Type 0
@@ -73,17 +47,9 @@ Identifiers =
     × (identifier_of limits Opening 33 ≡ 0)
     × (identifier_of limits Ballot 33 ≡ 0)
 
-pub identifiers_of_rounds : Identifiers
-unfolding identifier_of phase_of is_within
-identifiers_of_rounds = (refl, refl, refl, refl, refl, refl)
-
 -- after round 1 comes 2, after 31 the last, and the last stays
 abbrev pub NextRounds : Type 0
 NextRounds = (next_round limits 1 ≡ 2) × (next_round limits 31 ≡ 32) × (next_round limits 32 ≡ 32)
-
-pub next-rounds : NextRounds
-unfolding next_round
-next-rounds = (refl, refl, refl)
 
 -- board k is bit k - 1 of a set: boards 1 and 3 are the set 5, board 16 alone is 32,768, and 17 has no bit
 abbrev pub Masks : Type 0
@@ -104,10 +70,6 @@ Masks =
     × (count_in 3 (in_set 5) ≡ 2)
     × (count_in 2 (in_set 5) ≡ 1)
 
-pub masks : Masks
-unfolding in_set set_of with_board without_board union minus count_in plus ◌and◌ ◌or◌ neg
-masks = (refl, refl, refl, refl, refl, refl, refl, refl, refl, refl, refl, refl, refl, refl, refl)
-
 -- where statements stand: a row for each of seven boards, and in it 64 places
 abbrev pub Places : Type 0
 Places =
@@ -119,10 +81,6 @@ Places =
     × (index_of limits 8 1 ≡ None)
     × (index_of limits 1 0 ≡ None)
     × (index_of limits 1 65 ≡ None)
-
-pub places : Places
-unfolding index_of index_at place_of is_within ◌and◌
-places = (refl, refl, refl, refl, refl, refl, refl, refl)
 
 -- copies of what board 1 said under 1, of three boards: it is sound and signed, so they are owed to 2 and 3 (the set 6); then 2
 -- delivers it, and one is owed to 3 (the set 4); then 3 does, and none is. A faulty board 1 makes none owed by signing, but
@@ -139,12 +97,6 @@ Copies =
     × (receivers limits delivered_by_two 1 1 ≡ 4)
     × (receivers limits (after_delivery limits delivered_by_two 3 1 1 7 7) 1 1 ≡ 0)
     × (receivers limits (after_delivery limits (nothing_owed limits) 2 1 1 6 2) 1 1 ≡ 4)
-
-pub copies : Copies
-unfolding
-    after_signing after_delivery nothing_owed no_copies receivers receivers_at with_receivers with_receivers_at copies_of with_copies
-    lacks in_set set_of nth set_nth ◌and◌ ◌or◌ neg
-copies = (refl, refl, refl, refl)
 
 -- A board that has delivered the opening of round 1 with 9, which board 1 sends under 1, and some ballots of round 1, which are
 -- sent under 2.

@@ -1,9 +1,8 @@
 -- The worked examples, by computation: every definition that they come to is opened here. Assumes nothing.
 use mathlib.Core.Path.{refl}
 use mathlib.Core.List.{flat_map}
-use Rattle.signer.specs.Examples.{letter-d}
-use Rattle.delivery.specs.Examples.{letter-a, letter-b, letter-c}
-use Rattle.delivery.proofs.ExampleLaws.{letter-e, letter-f, letter-g, letter-h, letter-i, letter-j, letter-k}
+use Rattle.signer.proofs.ExampleLaws.{letter-d}
+use Rattle.delivery.proofs.ExampleLaws.{letter-a, letter-b, letter-c, letter-e, letter-f, letter-g, letter-h, letter-i, letter-j, letter-k}
 use Rattle.bench.specs.Events.{event_from}
 use Rattle.bench.specs.Shows.{letter_byte}
 use Rattle.bench.specs.Answers.{setup_number}

@@ -3,3 +3,4 @@ pub mod ConditionalLaws
 pub mod LogLaws
 pub mod SignerLaws
 pub mod HistoryLaws
+pub mod ExampleLaws

@@ -1,8 +1,8 @@
 -- Worked examples of signers and entries, with the numbers written out; letter d of the bench examples is one of them.
-use Rattle.std.specs.Prelude.{ℕ, suc, ◌≡◌, refl, Bool, true, false, List, [], ◌∷◌, map}
-use Rattle.signer.specs.FromOne.{is_within, nth, set_nth}
-use Rattle.signer.specs.Log.{identifiers, entry_of, value_of, empty_log, entry_at, with_entry}
-use Rattle.signer.specs.Signer.{Request, fresh_signer, grants, sign, after, history}
+-- They are computed in proofs/ExampleLaws.
+use Rattle.std.specs.Prelude.{ℕ, suc, ◌≡◌, Bool, true, false, List, [], ◌∷◌, map}
+use Rattle.signer.specs.Log.{identifiers, entry_of, value_of, entry_at}
+use Rattle.signer.specs.Signer.{Request, fresh_signer, after, history}
 
 -- a request for v under i
 abbrev pub under : ℕ → ℕ → Request
@@ -18,10 +18,6 @@ LetterD =
     (u v w x : ℕ)
     → answers (under 5 u ∷ under 3 v ∷ under 5 w ∷ under 6 x ∷ []) ≡ true ∷ false ∷ false ∷ true ∷ []
 
-pub letter-d : LetterD
-unfolding history sign grants is_within fresh_signer
-letter-d u v w x = refl
-
 -- after that `last` is 6, and under 5 and 6 stand the entries of what was signed, under 3 none
 abbrev pub KeptD : Type 0
 KeptD =
@@ -29,19 +25,11 @@ KeptD =
     → let s = after identifiers (fresh_signer identifiers) (under 5 u ∷ under 3 v ∷ under 5 w ∷ under 6 x ∷ []) in
     (s.last.0 ≡ 6) × (entry_at s.log 5 ≡ suc u) × (entry_at s.log 3 ≡ 0) × (entry_at s.log 6 ≡ suc x)
 
-pub kept-d : KeptD
-unfolding after sign grants is_within fresh_signer empty_log entry_at with_entry nth set_nth
-kept-d u v w x = (refl, refl, refl, refl)
-
 -- 1 and 64 are identifiers, 0 and 65 are none
 abbrev pub Ends : Type 0
 Ends =
     (u v w x : ℕ)
     → answers (under 0 u ∷ under 1 v ∷ under 65 w ∷ under 64 x ∷ []) ≡ false ∷ true ∷ false ∷ true ∷ []
-
-pub ends : Ends
-unfolding history sign grants is_within fresh_signer
-ends u v w x = refl
 
 -- entries: the blank's is 1 and that of the highest value 65,536; 0 stands for nothing, and what is above for no value
 abbrev pub Entries : Type 0
@@ -54,7 +42,3 @@ Entries =
     × (value_of 2 ≡ 1)
     × (value_of 65536 ≡ 65535)
     × (value_of 65537 ≡ 0)
-
-pub entries : Entries
-unfolding value_of
-entries = (refl, refl, refl, refl, refl, refl, refl, refl)

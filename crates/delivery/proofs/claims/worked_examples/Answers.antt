@@ -1,6 +1,5 @@
--- Each example is computed, beside its statement or by a law. Assumes nothing.
-use Rattle.delivery.specs.Examples.{letter-a, letter-b, letter-c, other-sizes, coordinators, identifiers_of_rounds, next-rounds, masks, places, copies}
-use Rattle.delivery.proofs.ExampleLaws.{letter-e, letter-f, letter-g, letter-h, letter-i, letter-j, letter-k}
+-- Each example has its law. Assumes nothing.
+use Rattle.delivery.proofs.ExampleLaws.{letter-a, letter-b, letter-c, other-sizes, coordinators, identifiers_of_rounds, next-rounds, masks, places, copies, letter-e, letter-f, letter-g, letter-h, letter-i, letter-j, letter-k}
 use Rattle.delivery.proofs.claims.worked_examples.Goals as goal
 
 pub returns-clause-letter_a : goal.returns-clause-letter_a

@@ -1,5 +1,5 @@
--- Each example is computed beside its statement. Assumes nothing.
-use Rattle.signer.specs.Examples.{letter-d, kept-d, ends, entries}
+-- Each example is computed, by a law. Assumes nothing.
+use Rattle.signer.proofs.ExampleLaws.{letter-d, kept-d, ends, entries}
 use Rattle.signer.proofs.claims.worked_examples.Goals as goal
 
 pub returns-clause-letter_d : goal.returns-clause-letter_d
