@@ -8,10 +8,6 @@ use Rattle.delivery.specs.Limits.{limits}
 use Rattle.delivery.specs.Examples.{LetterA, LetterB, LetterC, LetterE, LetterF, LetterG, LetterH, LetterI, LetterJ, LetterK}
 use Rattle.schedule.specs.Prints.{printed}
 
--- a file, by its bytes, prints a text
-abbrev pub Prints : List ℕ → List ℕ → Type 0
-Prints file text = printed limits file ≡ text
-
 -- the whole case: one board, which is sound, and four events; it proposes 700 and takes three turns
 abbrev pub whole_case : List ℕ
 whole_case =
@@ -23,7 +19,7 @@ whole_case =
     ∷ []
 
 abbrev pub LetterL : Type 0
-LetterL = Prints whole_case (codes "1 0\n2 0\n3 0\n4 0\n1 D 1 700\n")
+LetterL = printed limits whole_case ≡ codes "1 0\n2 0\n3 0\n4 0\n1 D 1 700\n"
 
 pub record Letters : Type 0 where
   pub a : LetterA
@@ -128,23 +124,23 @@ highest_value =
     ∷ []
 
 pub record PlayedFiles : Type 0 where
-  pub every : Prints every_kind every_print
-  pub spent : Prints spent_board spent_print
-  pub highest : Prints highest_value (codes "1 0\n2 0\n3 0\n4 0\n1 D 1 65535\n")
+  pub every : printed limits every_kind ≡ every_print
+  pub spent : printed limits spent_board ≡ spent_print
+  pub highest : printed limits highest_value ≡ codes "1 0\n2 0\n3 0\n4 0\n1 D 1 65535\n"
 
 -- Refused files, by the number that each prints: what is there ends too early; no number of boards; a mark that is none, though
 -- the next is not there; a count of 4,097 events, or of 65,535, though none is there; and bytes left over.
 pub record RefusedFiles : Type 0 where
-  pub empty : Prints [] (codes "refused 1\n")
-  pub no-mark-there : Prints (1 ∷ []) (codes "refused 1\n")
-  pub half-count : Prints (1 ∷ 0 ∷ 16 ∷ []) (codes "refused 1\n")
-  pub no-event-there : Prints (1 ∷ 0 ∷ 16 ∷ 0 ∷ []) (codes "refused 1\n")
-  pub cut-event : Prints (1 ∷ 0 ∷ 0 ∷ 1 ∷ 1 ∷ 1 ∷ 0 ∷ 0 ∷ 2 ∷ []) (codes "refused 1\n")
-  pub no-boards : Prints (0 ∷ []) (codes "refused 2\n")
-  pub eight-boards : Prints (8 ∷ []) (codes "refused 2\n")
-  pub nine-boards : Prints (9 ∷ []) (codes "refused 2\n")
-  pub mark-two : Prints (1 ∷ 2 ∷ []) (codes "refused 3\n")
-  pub mark-nine : Prints (2 ∷ 9 ∷ []) (codes "refused 3\n")
-  pub too-many : Prints (1 ∷ 0 ∷ 16 ∷ 1 ∷ []) (codes "refused 4\n")
-  pub most-of-all : Prints (1 ∷ 0 ∷ 255 ∷ 255 ∷ []) (codes "refused 4\n")
-  pub left-over : Prints (1 ∷ 0 ∷ 0 ∷ 0 ∷ 0 ∷ []) (codes "refused 5\n")
+  pub empty : printed limits [] ≡ codes "refused 1\n"
+  pub no-mark-there : printed limits (1 ∷ []) ≡ codes "refused 1\n"
+  pub half-count : printed limits (1 ∷ 0 ∷ 16 ∷ []) ≡ codes "refused 1\n"
+  pub no-event-there : printed limits (1 ∷ 0 ∷ 16 ∷ 0 ∷ []) ≡ codes "refused 1\n"
+  pub cut-event : printed limits (1 ∷ 0 ∷ 0 ∷ 1 ∷ 1 ∷ 1 ∷ 0 ∷ 0 ∷ 2 ∷ []) ≡ codes "refused 1\n"
+  pub no-boards : printed limits (0 ∷ []) ≡ codes "refused 2\n"
+  pub eight-boards : printed limits (8 ∷ []) ≡ codes "refused 2\n"
+  pub nine-boards : printed limits (9 ∷ []) ≡ codes "refused 2\n"
+  pub mark-two : printed limits (1 ∷ 2 ∷ []) ≡ codes "refused 3\n"
+  pub mark-nine : printed limits (2 ∷ 9 ∷ []) ≡ codes "refused 3\n"
+  pub too-many : printed limits (1 ∷ 0 ∷ 16 ∷ 1 ∷ []) ≡ codes "refused 4\n"
+  pub most-of-all : printed limits (1 ∷ 0 ∷ 255 ∷ 255 ∷ []) ≡ codes "refused 4\n"
+  pub left-over : printed limits (1 ∷ 0 ∷ 0 ∷ 0 ∷ 0 ∷ []) ≡ codes "refused 5\n"

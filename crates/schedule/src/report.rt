@@ -108,8 +108,10 @@ impl Report {
     }
 
     /// Reads a file, plays it, and writes what is to be printed of it to the start of a buffer that has room for any report, so
-    /// there is no error; hands back how many bytes that is. `Report::write` is for buffers of other lengths.
+    /// there is no error; hands back how many bytes that is. The rest of the buffer stays. `Report::write` is for buffers of other lengths.
     pub fn print(file: &[u8], out: &mut [u8; Report::LONGEST]) -> usize
+        ensures length { result ≡ length (printed limits file.now) }
+        ensures buffer { out.new ≡ buffer_from (printed limits file.now) out.old }
         ensures fits { result ≤ length out.new }
         ensures text { take result out.new ≡ printed limits file.now }
         ensures reports { Reports file.now (take result out.new) }

@@ -19,8 +19,9 @@ returns c =
     let file = c.args.file.now in
     let r = c.in-Ok.length in
     let is : Ok r ≡ report_from (printed limits file) (length c.args.out.now) = sym c.in-Ok.is ∙ c.write.ensures.answer in
+    let told : r ≡ length (printed limits file) = told-written _ (length c.args.out.now) r is in
     let text : take r c.write.new.out ≡ printed limits file =
-    ap (λ m. take m c.write.new.out) (told-written _ (length c.args.out.now) r is)
+    ap (λ m. take m c.write.new.out) told
     ∙ ap (take _) c.write.ensures.buffer
     ∙ text-first _ c.args.out.now (omega (arith, c.write.ensures.within)) in
-    record { fits = search rules; text = text; reports = subst⁻¹ (Reports file) text c.write.ensures.reports }
+    record { length = told; buffer = c.write.ensures.buffer; fits = search rules; text = text; reports = subst⁻¹ (Reports file) text c.write.ensures.reports }
