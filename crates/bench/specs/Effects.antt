@@ -20,21 +20,14 @@ use Rattle.bench.specs.declared.effect.Outcome.{Outcome}
 
 -- the bench with another board k, with board k's signer asked for a signature, and with other copies owed
 unfoldable pub with_board_at : Bench → ℕ → Board → Bench
-with_board_at c k b =
-    record { n = c.n; sound = c.sound; boards = set_nth c.boards k b; signers = c.signers; owed = c.owed }
+with_board_at c k b = record c { boards = set_nth c.boards k b }
 
 unfoldable pub with_signature : Limits → Bench → ℕ → ℕ → ℕ → Bench
 with_signature L c k i v =
-    record {
-      n = c.n;
-      sound = c.sound;
-      boards = c.boards;
-      signers = set_nth c.signers k (sign L.identifiers (signer_at L c k) i v).signer;
-      owed = c.owed;
-    }
+    record c { signers = set_nth c.signers k (sign L.identifiers (signer_at L c k) i v).signer }
 
 unfoldable pub with_owed : Bench → Owed → Bench
-with_owed c o = record { n = c.n; sound = c.sound; boards = c.boards; signers = c.signers; owed = o }
+with_owed c o = record c { owed = o }
 
 -- sound board k says something in its turn: its signer signs that, and copies become owed
 unfoldable pub after_saying : Limits → Bench → ℕ → Option Statement → Bench

@@ -59,15 +59,15 @@ module _ (L : Limits) (n k : ℕ) where
   unfoldable pub believing : Standing → Event → Standing
   believing t e =
       if eqb e.kind proposing
-      then record { position = starting_with t.position e.value; heard = t.heard }
+      then record t { position = starting_with t.position e.value }
       else if eqb e.kind turning
       then record { position = position_after L (move_of t) t.position; heard = hearing_said t.heard (saying t) }
       else if eqb e.kind delivering
-      then record { position = t.position; heard = hearing t.heard e.b e.id e.value }
+      then record t { heard = hearing t.heard e.b e.id e.value }
       else if eqb e.kind suspecting
-      then record { position = with_suspected t.position (with_board t.position.suspected e.b); heard = t.heard }
+      then record t { position = with_suspected t.position (with_board t.position.suspected e.b) }
       else if eqb e.kind trusting
-      then record { position = with_suspected t.position (without_board t.position.suspected e.b); heard = t.heard }
+      then record t { position = with_suspected t.position (without_board t.position.suspected e.b) }
       else t
 
   -- where it stands after one entry of a history, after some, and after all of it

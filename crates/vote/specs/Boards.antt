@@ -56,32 +56,32 @@ has_decided (Decided d) r v = eqb d.round.0 r and eqb d.value v
 
 -- the same board with another status: its round, estimate and stage stay
 unfoldable pub with_status : Board → Status → Board
-with_status b s = record { position = b.position; delivered = b.delivered; status = s }
+with_status b s = record b { status = s }
 
 -- Proposing v starts a board: it stands at the first stage of round 1 with estimate v, and suspects whom it suspected.
 -- It starts once, and the blank is no proposal.
 unfoldable pub starting_with : Position → ℕ → Position
-starting_with p v = record { round = record { 0 = 1 }; estimate = v; stage = Open; suspected = p.suspected }
+starting_with p v = record p { round = record { 0 = 1 }; estimate = v; stage = Open }
 
 unfoldable pub propose : Board → ℕ → Board
 propose b v =
     if is_started b.status or eqb v 0
     then b
-    else record { position = starting_with b.position v; delivered = b.delivered; status = Voting }
+    else record b { position = starting_with b.position v; status = Voting }
 
 -- a statement is delivered, however far the board is
 unfoldable pub hears : Limits → Delivered → Statement → Delivered
 hears L d s = deliver L d s.speaker s.id.0 s.value
 
 unfoldable pub deliver_to : Limits → Board → Statement → Board
-deliver_to L b s = record { position = b.position; delivered = hears L b.delivered s; status = b.status }
+deliver_to L b s = record b { delivered = hears L b.delivered s }
 
 -- the boards of the set m are suspected, and no others; nothing else changes
 abbrev pub with_suspected : Position → ℕ → Position
-with_suspected p m = record { round = p.round; estimate = p.estimate; stage = p.stage; suspected = m }
+with_suspected p m = record p { suspected = m }
 
 abbrev pub suspecting : Board → ℕ → Board
-suspecting b m = record { position = with_suspected b.position m; delivered = b.delivered; status = b.status }
+suspecting b m = record b { position = with_suspected b.position m }
 
 -- board k is suspected from now on, or no longer
 unfoldable pub suspect : Board → ℕ → Board

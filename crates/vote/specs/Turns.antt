@@ -50,7 +50,7 @@ answer_to (Expires v) = Ok tt
 -- where the board stands afterwards: at stage B after A, at C after B, at A of the next round with the new estimate, or
 -- where it was; a board that is spent has taken the new estimate
 unfoldable pub at_stage : Position → Stage → Position
-at_stage p s = record { round = p.round; estimate = p.estimate; stage = s; suspected = p.suspected }
+at_stage p s = record p { stage = s }
 
 unfoldable pub position_after : Limits → Move → Position → Position
 position_after L Waits p = p
@@ -59,8 +59,8 @@ position_after L (Opens v) p = at_stage p Vote
 position_after L (Ballots v) p = at_stage p Count
 position_after L (Decides v) p = p
 position_after L (Advances v) p =
-    record { round = record { 0 = next_round L p.round.0 }; estimate = v; stage = Open; suspected = p.suspected }
-position_after L (Expires v) p = record { round = p.round; estimate = v; stage = p.stage; suspected = p.suspected }
+    record p { round = record { 0 = next_round L p.round.0 }; estimate = v; stage = Open }
+position_after L (Expires v) p = record p { estimate = v }
 
 -- how far it is afterwards, where it was voting in round r
 unfoldable pub status_after : ℕ → Move → Status
