@@ -1,6 +1,6 @@
 -- Document 01, "Events" and "Schedule file and program": the kinds of events, the fields that each uses, and an event's
 -- bytes.
-use Rattle.std.specs.Prelude.{ℕ, ◌+◌, ◌*◌, Bool, List, Result, Ok, Err, eqb, get_or, if◌then◌else◌}
+use Rattle.std.specs.Prelude.{ℕ, ◌+◌, ◌*◌, Bool, List, Result, Ok, Err, eqb, slice_index, if◌then◌else◌}
 use Rattle.delivery.specs.Tests.{◌or◌}
 use Rattle.bench.specs.declared.answer.Refusal.{Refusal}
 use Rattle.bench.specs.declared.answer.Refusal.TheVariants.{NoKind}
@@ -75,9 +75,9 @@ event_bytes = 6
 unfoldable pub event_from : List ℕ → Event
 event_from bs =
     record {
-      kind = get_or bs 0 0;
-      a = get_or bs 1 0;
-      b = get_or bs 2 0;
-      id = get_or bs 3 0;
-      value = high_first (get_or bs 4 0) (get_or bs 5 0);
+      kind = slice_index bs 0;
+      a = slice_index bs 1;
+      b = slice_index bs 2;
+      id = slice_index bs 3;
+      value = high_first (slice_index bs 4) (slice_index bs 5);
     }

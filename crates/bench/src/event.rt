@@ -1,4 +1,4 @@
-ghost use Rattle.std.specs.Prelude.{◌≡◌, Ok, Err, get_or, if◌then◌else◌};
+ghost use Rattle.std.specs.Prelude.{◌≡◌, Ok, Err, slice_index, if◌then◌else◌};
 ghost use Rattle.bench.specs.Table.{kind_row};
 ghost use Rattle.bench.specs.declared.answer.Refusal.TheVariants.{NoKind};
 ghost use Rattle.bench.specs.Events.{kind_number, kind_of, uses_other, uses_id, uses_value, event_from};
@@ -110,7 +110,7 @@ impl Kind {
 
 // A byte of a list; 0 past its end.
 fn byte(bytes: &[u8], at: usize) -> u8
-    ensures { result ≡ get_or bytes.now at 0 }
+    ensures { result ≡ slice_index bytes.now at }
 {
     bytes.get(at).copied().unwrap_or(0)
 }
