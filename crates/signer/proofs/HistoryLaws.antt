@@ -3,7 +3,7 @@
 use Prim.Native.Nat.{ℕ, ◌≤◌}
 use native.Mathlib.Omega.{arith}
 use mathlib.Core.Path.{◌≡◌, refl}
-use mathlib.Core.Logic.{◌⊎◌, inl, ⊎_elim}
+use mathlib.Core.Logic.{◌⊎◌}
 use mathlib.Core.List.Memᴰ
 use mathlib.Core.List.{List, [], ◌∷◌, ◌++◌}
 use Rattle.std.specs.Prelude.{◌↔◌}
@@ -17,13 +17,16 @@ use Rattle.signer.proofs.SignerLaws.{WellFormed, sign-wellformed, asks}
 abbrev pub Reached : Signer → Type 0
 Reached s = (s.last.0 ≡ 0) ⊎ (1 ≤ entry_at s.log s.last.0)
 
--- what a list of requests makes of the signer s: it stays well-formed, `last` never falls and is reached, and what stands
--- afterwards is what stood before and what was signed on the way
+-- what a list of requests makes of the signer s: it stays well-formed, `last` never falls and is reached, and
+-- what stands afterwards is what stood before and what was signed on the way
 pub record Leads (limit : ℕ) (s : Signer) (rs : List Request) : Type 0 where
   pub formed : WellFormed limit (after limit s rs)
   pub rises : s.last.0 ≤ (after limit s rs).last.0
   pub reached : Reached s → Reached (after limit s rs)
   pub stands : (i v : ℕ) → Signed (after limit s rs) i v ↔ (Signed s i v ⊎ WasSigned limit s rs i v)
+
+-- a member of a longer list
+ruleset members = (Memᴰ.head, Memᴰ.tail, Memᴰ.cases_cons)
 
 module _ (limit : ℕ) where
   pub leads : (s : Signer) (rs : List Request) → WellFormed limit s → Leads limit s rs
@@ -33,7 +36,7 @@ module _ (limit : ℕ) where
         formed = w;
         rises = omega arith;
         reached = λ h. h;
-        stands = λ i v. (inl, ⊎_elim (λ p. p) (λ m. absurd (Memᴰ.not-nil m)));
+        stands = λ i v. grind (arith, Memᴰ.not-nil);
       }
   leads s (r ∷ rs) w =
       let t = leads (ask limit s r).signer rs (sign-wellformed limit s r.identifier r.value w) in
@@ -41,7 +44,7 @@ module _ (limit : ℕ) where
         formed = t.formed;
         rises = grind (arith, t.rises, asks);
         reached = λ h. t.reached (grind (arith, nat_tests, h, asks));
-        stands = λ i v. grind (arith, nat_tests, t.stands i v, w.capped i v, asks, Memᴰ.head, Memᴰ.tail, Memᴰ.cases_cons);
+        stands = λ i v. grind (arith, nat_tests, t.stands i v, w.capped i v, asks, members);
       }
 
   -- one list after another
