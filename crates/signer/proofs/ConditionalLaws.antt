@@ -1,6 +1,6 @@
--- Laws of conditionals, and of tests that hold together. Assumes nothing.
+-- Laws of conditionals. Assumes nothing.
 use mathlib.Core.Path.{◌≡◌, refl}
-use mathlib.Core.Bool.{Bool, true, false, ◌&&◌}
+use mathlib.Core.Bool.{Bool, true, false}
 use Rattle.std.specs.Prelude.{if◌then◌else◌}
 
 -- what holds of both outcomes, each under its test, holds of the one chosen
@@ -15,13 +15,3 @@ if-true b x y h = rw h
 
 pub if-false : {A : Type 0} (b : Bool) (x y : A) → b ≡ false → (if b then x else y) ≡ y
 if-false b x y h = rw h
-
--- where both tests hold, each does
-pub and_left : (a b : Bool) → (a && b) ≡ true → a ≡ true
-and_left true b h = refl
-and_left false b h = h
-
-pub and_right : (a b : Bool) → (a && b) ≡ true → b ≡ true
-and_right true b h = h
-and_right false true h = refl
-and_right false false h = h

@@ -20,3 +20,5 @@ ends u v w x = refl
 pub entries : Entries
 unfolding value_of
 entries = (refl, refl, refl, refl, refl, refl, refl, refl)
+
+pub ruleset examples = (letter-d, kept-d, ends, entries)

@@ -1,17 +1,19 @@
 -- Laws of one request. Assumes nothing.
 use Prim.Native.Nat.{ℕ, ◌≤◌, ◌<◌}
 use native.Mathlib.Omega.{arith}
-use mathlib.Core.Path.{◌≡◌, refl, sym, ◌∙◌}
-use mathlib.Core.Bool.{Bool, true, false, true≢false}
-use mathlib.Core.Logic.{◌⊎◌, inl, inr, ⊎_elim}
-use borrow.Author.Tests.{ltb-true, lt-ltb}
-use lib.Dec.{ltb}
-use Rattle.signer.specs.Log.{is_identifier, entry_of, entry_at}
-use Rattle.signer.specs.Signer.{Signing, fresh_signer, Signed, grants, sign}
+use mathlib.Core.Path.{◌≡◌, refl}
+use mathlib.Core.Bool.{true, false}
+use mathlib.Core.Logic.{◌⊎◌}
+use lib.Dec.{eqb}
+use lib.ListN.{length-replicate}
+use Rattle.std.specs.Prelude.{if◌then◌else◌}
+use Rattle.std.proofs.lemmas.Bool.Decides.{nat_tests}
+use Rattle.signer.specs.FromOne.{is_within}
+use Rattle.signer.specs.Log.{is_identifier, entry_of, empty_log, entry_at, with_entry}
+use Rattle.signer.specs.Signer.{fresh_signer, Signed, grants, sign}
 use Rattle.signer.specs.declared.signer.Signer.{Signer}
-use Rattle.signer.proofs.ConditionalLaws.{if-elim, and_left, and_right}
-use Rattle.signer.proofs.LogLaws.{Whole, empty-whole, with-whole, entry-empty, entry-same, entry_other, entry-elim}
-use Rattle.signer.proofs.FromOneLaws.{within-high}
+use Rattle.signer.proofs.FromOneLaws.{length-set_nth, nth-set-same, nth-set-other, nth-replicate}
+use Rattle.signer.proofs.LogLaws.{Whole}
 
 -- what a signer is after any requests from a fresh one: its log has a place for each identifier, `last` is
 -- one or 0, and what is signed has an identifier of at most `last`
@@ -25,157 +27,75 @@ pub fresh-last : (limit : ℕ) → (fresh_signer limit).last.0 ≡ 0
 unfolding fresh_signer
 fresh-last limit = refl
 
+pub fresh-entry : (limit i : ℕ) → entry_at (fresh_signer limit).log i ≡ 0
+unfolding fresh_signer empty_log entry_at
+fresh-entry limit i = nth-replicate limit i 0
+
 pub fresh-unsigned : (limit i v : ℕ) → Signed (fresh_signer limit) i v → ⊥
-unfolding fresh_signer
-fresh-unsigned limit i v h = omega (arith, entry-empty limit i)
+fresh-unsigned limit i v h = omega (arith, fresh-entry)
 
 pub fresh-wellformed : (limit : ℕ) → WellFormed limit (fresh_signer limit)
-unfolding fresh_signer
+unfolding fresh_signer empty_log
 fresh-wellformed limit =
     record {
-      whole = empty-whole limit;
+      whole = record { whole = length-replicate limit 0 };
       within = omega arith;
       capped = λ i v h. absurd (fresh-unsigned limit i v h);
     }
-
--- under one identifier stands at most one value
-pub signed-one : (s : Signer) (i v w : ℕ) → Signed s i v → Signed s i w → v ≡ w
-signed-one s i v w p q = omega arith
-
--- the blank is signed as a value is: where it is, the entry is not the one of no statement
-pub blank_stands : (s : Signer) (i : ℕ) → Signed s i 0 → entry_at s.log i ≡ 0 → ⊥
-blank_stands s i p q = omega arith
 
 -- what is granted: exactly an identifier above `last`
 module _ (limit : ℕ) (s : Signer) (i : ℕ) where
   pub grants-only : grants limit s i ≡ true → (is_identifier limit i ≡ true) × (s.last.0 < i)
   unfolding grants
-  grants-only h = (
-    and_left (is_identifier limit i) (ltb s.last.0 i) h,
-    ltb-true s.last.0 i (and_right (is_identifier limit i) (ltb s.last.0 i) h),
-  )
+  grants-only h = grind (arith, nat_tests)
 
   pub grants-above : is_identifier limit i ≡ true → s.last.0 < i → grants limit s i ≡ true
   unfolding grants
-  grants-above h l = rw (h, lt-ltb s.last.0 i l)
+  grants-above h l = grind (arith, nat_tests)
 
 module _ (limit : ℕ) (s : Signer) (i v : ℕ) where
   -- the answer says whether the request was granted, whatever the value
   pub sign-answer : (sign limit s i v).signed ≡ grants limit s i
   unfolding sign
-  sign-answer = if-elim (λ (o : Signing). o.signed ≡ grants limit s i) (grants limit s i) _ _ (λ g. sym g) (λ g. sym g)
+  sign-answer = grind arith
 
   -- refused: nothing changes
   pub sign-refused : grants limit s i ≡ false → (sign limit s i v).signer ≡ s
   unfolding sign
-  sign-refused h =
-      if-elim (λ (o : Signing). o.signer ≡ s) (grants limit s i) _ _ (λ g. absurd (true≢false (sym g ∙ h))) (λ g. refl)
+  sign-refused h = grind arith
 
-  -- granted: `last` is the identifier
+  -- granted: `last` is the identifier, and under it stands the value, the blank too; any other entry is as it was
   pub sign-last : grants limit s i ≡ true → (sign limit s i v).signer.last.0 ≡ i
   unfolding sign
-  sign-last h =
-      if-elim (λ (o : Signing). o.signer.last.0 ≡ i) (grants limit s i) _ _ (λ g. refl) (λ g. absurd (true≢false (sym h ∙ g)))
+  sign-last h = grind arith
 
-  -- `last` never falls
-  pub sign-rises : s.last.0 ≤ (sign limit s i v).signer.last.0
-  unfolding sign
-  sign-rises =
-      if-elim
-      (λ (o : Signing). s.last.0 ≤ o.signer.last.0)
-      (grants limit s i)
-      _
-      _
-      (λ g. omega (arith, (grants-only limit s i g).1))
-      (λ g. omega arith)
+  pub granted-entry : WellFormed limit s → grants limit s i ≡ true → (j : ℕ)
+      → entry_at (sign limit s i v).signer.log j ≡ (if eqb j i then entry_of v else entry_at s.log j)
+  unfolding sign grants is_within entry_at with_entry
+  granted-entry w g j = let size = w.whole.whole in grind (arith, nat_tests, nth-set-same, nth-set-other)
 
-  -- granted: the value stands under the identifier, the blank too
+  -- so, granted or refused, what stands is what stood before and what was just granted
   pub sign-stands : WellFormed limit s → grants limit s i ≡ true → Signed (sign limit s i v).signer i v
-  unfolding sign
-  sign-stands w h =
-      if-elim
-      (λ (o : Signing). Signed o.signer i v)
-      (grants limit s i)
-      _
-      _
-      (λ g. entry-same limit s.log i (entry_of v) w.whole (grants-only limit s i g).0)
-      (λ g. absurd (true≢false (sym h ∙ g)))
+  sign-stands w h = grind (arith, nat_tests, granted-entry)
 
-  -- granted or refused: what was signed stays
   pub sign-keeps : WellFormed limit s → (j u : ℕ) → Signed s j u → Signed (sign limit s i v).signer j u
-  unfolding sign
-  sign-keeps w j u h =
-      if-elim
-      (λ (o : Signing). Signed o.signer j u)
-      (grants limit s i)
-      _
-      _
-      (λ g. entry_other s.log i (entry_of v) j (λ e. omega (arith, w.capped j u h, (grants-only limit s i g).1)) ∙ h)
-      (λ g. h)
+  unfolding sign grants
+  sign-keeps w j u h = grind (arith, nat_tests, granted-entry w, w.capped j u)
 
-  -- and what is signed was so before, or was just granted
   pub sign-only : WellFormed limit s → (j u : ℕ) → Signed (sign limit s i v).signer j u
       → Signed s j u ⊎ ((grants limit s i ≡ true) × (j ≡ i) × (u ≡ v))
   unfolding sign
-  sign-only w j u =
-      if-elim
-      (λ (o : Signing). Signed o.signer j u → Signed s j u ⊎ ((grants limit s i ≡ true) × (j ≡ i) × (u ≡ v)))
-      (grants limit s i)
-      _
-      _
-      (λ g.
-      entry-elim
-      limit
-      s.log
-      i
-      (entry_of v)
-      w.whole
-      (grants-only limit s i g).0
-      (λ (e : ℕ). e ≡ entry_of u → Signed s j u ⊎ ((grants limit s i ≡ true) × (j ≡ i) × (u ≡ v)))
-      j
-      (λ e h. inr (g, e, omega arith))
-      (λ e h. inl h))
-      (λ g h. inl h)
+  sign-only w j u h = grind (arith, nat_tests, granted-entry w)
 
-  -- so a signer stays well-formed
+  -- and a signer stays well-formed
   pub sign-wellformed : WellFormed limit s → WellFormed limit (sign limit s i v).signer
-  unfolding sign
+  unfolding sign grants is_within with_entry
   sign-wellformed w =
       record {
-        whole =
-            if-elim
-            (λ (o : Signing). Whole limit o.signer.log)
-            (grants limit s i)
-            _
-            _
-            (λ g. with-whole limit s.log i (entry_of v) w.whole)
-            (λ g. w.whole);
-        within =
-            if-elim
-            (λ (o : Signing). o.signer.last.0 ≤ limit)
-            (grants limit s i)
-            _
-            _
-            (λ g. within-high limit i (grants-only limit s i g).0)
-            (λ g. w.within);
-        capped = λ j u h.
-            ⊎_elim
-            (λ (p : Signed s j u). omega (arith, w.capped j u p, sign-rises))
-            (λ p. omega (arith, sign-last p.0))
-            (sign-only w j u h);
+        whole = grind (arith, length-set_nth);
+        within = grind (arith, nat_tests);
+        capped = λ j u h. grind (arith, nat_tests, granted-entry w, w.capped j u);
       }
 
--- `last` is 0, or what was signed under it stands
-pub sign-reached : (limit : ℕ) (s : Signer) (i v : ℕ) → WellFormed limit s
-    → (s.last.0 ≡ 0) ⊎ ((u : ℕ) × Signed s s.last.0 u)
-    → ((sign limit s i v).signer.last.0 ≡ 0) ⊎ ((u : ℕ) × Signed (sign limit s i v).signer (sign limit s i v).signer.last.0 u)
-sign-reached limit s i v w h = go (grants limit s i) refl
-  where
-    go : (b : Bool) → grants limit s i ≡ b
-        → ((sign limit s i v).signer.last.0 ≡ 0) ⊎ ((u : ℕ) × Signed (sign limit s i v).signer (sign limit s i v).signer.last.0 u)
-    go true g = inr (v, rw (sign-last limit s i v g) (sign-stands limit s i v w g))
-    go false g = rw (sign-refused limit s i v g) h
-
--- whether a request is granted does not depend on its value
-pub value-alike : (limit : ℕ) (s : Signer) (i v u : ℕ) → (sign limit s i v).signed ≡ (sign limit s i u).signed
-value-alike limit s i v u = sign-answer limit s i v ∙ sym (sign-answer limit s i u)
+-- what comes of a request
+pub ruleset asks = (sign-answer, sign-refused, sign-last, granted-entry, grants-only)

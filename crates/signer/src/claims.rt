@@ -29,6 +29,7 @@ pub fn every_limit()
 {}
 
 /// The worked examples, computed: letter d and what the signer then keeps, the lowest and the highest identifier, and entries.
+#[tactic(auto, using(crate::proofs::ExampleLaws::examples))]
 pub fn worked_examples()
     ensures letter_d { LetterD }
     ensures kept_d { KeptD }
