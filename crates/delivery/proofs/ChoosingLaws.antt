@@ -11,17 +11,38 @@ use lib.Dec.{eqb, leb}
 use lib.ListN.{length}
 use Rattle.std.proofs.lemmas.Bool.Decides.{nat_tests}
 use Rattle.std.specs.Prelude.{if◌then◌else◌}
-use Rattle.signer.proofs.ConditionalLaws.{if-elim}
 use Rattle.delivery.specs.Tests.{◌and◌, ◌or◌}
 use Rattle.delivery.specs.Counting.{plus, count_in, count_of, every_of, some_choice}
 use Rattle.delivery.proofs.TestLaws.{or_cases, decided}
-use Rattle.delivery.proofs.CountLaws.{count-cong, count-some, find}
+use Rattle.delivery.proofs.CountLaws.{count-mono, count-cong, count-some, find, shared}
 
--- a choice of different numbers of 1 to n: each is skipped or picked
-pub data Choice : ℕ → List ℕ → Type 0 where
-  none : Choice zero []
-  skip : {n : ℕ} {ks : List ℕ} → Choice n ks → Choice (suc n) ks
-  pick : {n : ℕ} {ks : List ℕ} → Choice n ks → Choice (suc n) (suc n ∷ ks)
+-- those of 1 to n that pass, highest first
+pub picked : ℕ → (ℕ → Bool) → List ℕ
+picked zero p = []
+picked (suc n) p = if p (suc n) then suc n ∷ picked n p else picked n p
+
+picked-cong : (n : ℕ) (p q : ℕ → Bool) → ((k : ℕ) → 1 ≤ k → k ≤ n → p k ≡ q k) → picked n p ≡ picked n q
+unfolding picked
+picked-cong zero p q f = refl
+picked-cong (suc n) p q f = grind (arith, f (suc n), picked-cong n p q (λ k l u. f k l (omega arith)))
+
+-- a choice of different numbers of 1 to n: those that pass a test
+pub record Choice (n : ℕ) (ks : List ℕ) : Type 0 where
+  pub passes : ℕ → Bool
+  pub is : ks ≡ picked n passes
+
+pub none : Choice zero []
+unfolding picked
+none = record { passes = λ k. false; is = refl }
+
+-- a test of 1 to n with an answer for the next number
+next : ℕ → (ℕ → Bool) → Bool → ℕ → Bool
+next n p b k = if leb k n then p k else b
+
+picked-next : (n : ℕ) (p : ℕ → Bool) (b : Bool)
+    → (if b then suc n ∷ picked n p else picked n p) ≡ picked (suc n) (next n p b)
+unfolding picked next
+picked-next n p b = grind (arith, nat_tests, picked-cong n p (next n p b) (λ k l u. grind (arith, nat_tests)))
 
 -- `some_choice` says that there is one which passes
 pub some-choice : (n : ℕ) (p : List ℕ → Bool) → some_choice n p ≡ true → (ks : List ℕ) × (Choice n ks) × (p ks ≡ true)
@@ -29,29 +50,20 @@ unfolding some_choice
 some-choice zero p h = ([], none, h)
 some-choice (suc n) p h =
     ⊎_elim
-    (λ e. let x = some-choice n (λ (ks : List ℕ). p (suc n ∷ ks)) e in (suc n ∷ x.0, pick x.1, x.2))
-    (λ e. let x = some-choice n p e in (x.0, skip x.1, x.2))
+    (λ e. let x = some-choice n (λ (ks : List ℕ). p (suc n ∷ ks)) e in (suc n ∷ x.0, next-choice x.1 true, x.2))
+    (λ e. let x = some-choice n p e in (x.0, next-choice x.1 false, x.2))
     (or_cases (some_choice n (λ (ks : List ℕ). p (suc n ∷ ks))) (some_choice n p) h)
+  where
+    next-choice : {ks : List ℕ} → Choice n ks → (b : Bool) → Choice (suc n) (if b then suc n ∷ ks else ks)
+    next-choice c b = record { passes = next n c.passes b; is = rw (← picked-next n c.passes b, c.is) }
+
+picked-some : (n : ℕ) (t : ℕ → Bool) (p : List ℕ → Bool) → p (picked n t) ≡ true → some_choice n p ≡ true
+unfolding picked some_choice ◌or◌
+picked-some zero t p h = h
+picked-some (suc n) t p h = grind (arith, picked-some n t (λ (ks : List ℕ). p (suc n ∷ ks)), picked-some n t p)
 
 pub choice-some : {n : ℕ} {ks : List ℕ} (p : List ℕ → Bool) → Choice n ks → p ks ≡ true → some_choice n p ≡ true
-unfolding some_choice ◌or◌
-choice-some p none h = h
-choice-some p (skip {n = n} c) h = grind (arith, choice-some p c h)
-choice-some p (pick {n = n} c) h = grind (arith, choice-some (λ (ks : List ℕ). p (suc n ∷ ks)) c h)
-
--- a choice and a set of 1 to n share at least as many as their sizes exceed n
-pub choice-shares : {n : ℕ} {ks : List ℕ} (p : ℕ → Bool) → Choice n ks → length ks + count_in n p ≤ n + count_of p ks
-unfolding count_in count_of plus
-choice-shares p none = omega arith
-choice-shares p (skip {n = n} c) = grind (arith, choice-shares p c)
-choice-shares p (pick {n = n} c) = grind (arith, choice-shares p c)
-
--- a choice holds no more of a set than there are
-pub choice-within : {n : ℕ} {ks : List ℕ} (p : ℕ → Bool) → Choice n ks → count_of p ks ≤ count_in n p
-unfolding count_in count_of plus
-choice-within p none = omega arith
-choice-within p (skip {n = n} c) = grind (arith, choice-within p c)
-choice-within p (pick {n = n} c) = grind (arith, choice-within p c)
+choice-some {n = n} p c h = picked-some n c.passes p (sym (ap p c.is) ∙ h)
 
 -- all of a list pass: each member does
 pub every-member : (p : ℕ → Bool) (ks : List ℕ) → every_of p ks ≡ true → (k : ℕ) → Memᴰ k ks → p k ≡ true
@@ -85,17 +97,7 @@ unfolding count_of plus
 count-alike p q [] f = refl
 count-alike p q (j ∷ ks) f = grind (arith, f j (Memᴰ.head refl), count-alike p q ks (λ k m. f k (Memᴰ.tail m)))
 
--- the choice of those of 1 to n that pass: as many of them pass another test as pass both
-pub picked : ℕ → (ℕ → Bool) → List ℕ
-picked zero p = []
-picked (suc n) p = if p (suc n) then suc n ∷ picked n p else picked n p
-
-pub picked-choice : (n : ℕ) (p : ℕ → Bool) → Choice n (picked n p)
-unfolding picked
-picked-choice zero p = none
-picked-choice (suc n) p =
-    if-elim (Choice (suc n)) (p (suc n)) _ _ (λ t. pick (picked-choice n p)) (λ f. skip (picked-choice n p))
-
+-- as many of a choice pass another test as pass both
 pub count-picked : (n : ℕ) (p q : ℕ → Bool) → count_of q (picked n p) ≡ count_in n (λ (k : ℕ). p k and q k)
 unfolding picked count_in count_of plus ◌and◌
 count-picked zero p q = refl
@@ -105,6 +107,15 @@ pub length-picked : (n : ℕ) (p : ℕ → Bool) → length (picked n p) ≡ cou
 unfolding picked count_in plus
 length-picked zero p = refl
 length-picked (suc n) p = grind (arith, length-picked n p)
+
+-- so it shares with a set at least as many as their sizes exceed n, and holds no more of one than there are
+pub choice-shares : {n : ℕ} {ks : List ℕ} (p : ℕ → Bool) → Choice n ks → length ks + count_in n p ≤ n + count_of p ks
+choice-shares {n = n} p c = rw c.is (omega (arith, length-picked n c.passes, count-picked n c.passes p, shared n c.passes p))
+
+pub choice-within : {n : ℕ} {ks : List ℕ} (p : ℕ → Bool) → Choice n ks → count_of p ks ≤ count_in n p
+unfolding ◌and◌
+choice-within {n = n} p c =
+    rw (c.is, count-picked n c.passes p) (count-mono n _ p (λ k l u t. grind arith))
 
 -- its members are those that pass
 pub picked-member : (n : ℕ) (p : ℕ → Bool) (k : ℕ) → Memᴰ k (picked n p) → (1 ≤ k) × (k ≤ n) × (p k ≡ true)
@@ -120,24 +131,6 @@ member-picked n p k l u t =
     let c = count-some n (λ (j : ℕ). p j and eqb j k) k l u (grind (arith, nat_tests)) in
     let x = find-member (λ (j : ℕ). eqb j k) (picked n p) (omega (arith, c, count-picked n p (λ (j : ℕ). eqb j k))) in
     rw (eqb-true x.0 k x.2) at x.1
-
--- and every choice is the one of its members
-picked-cong : (n : ℕ) (p q : ℕ → Bool) → ((k : ℕ) → 1 ≤ k → k ≤ n → p k ≡ q k) → picked n p ≡ picked n q
-unfolding picked
-picked-cong zero p q f = refl
-picked-cong (suc n) p q f = grind (arith, f (suc n), picked-cong n p q (λ k l u. f k l (omega arith)))
-
-pub choice-picked : {n : ℕ} {ks : List ℕ} → Choice n ks → (p : ℕ → Bool) × (ks ≡ picked n p)
-unfolding picked ◌and◌ ◌or◌
-choice-picked none = (λ k. false, refl)
-choice-picked (skip {n = n} c) =
-    let x = choice-picked c in
-    let q = λ (k : ℕ). leb k n and x.0 k in
-    (q, grind (arith, nat_tests, x.1, picked-cong n x.0 q (λ k l u. grind (arith, nat_tests))))
-choice-picked (pick {n = n} c) =
-    let x = choice-picked c in
-    let q = λ (k : ℕ). eqb k (suc n) or x.0 k in
-    (q, grind (arith, nat_tests, x.1, picked-cong n x.0 q (λ k l u. grind (arith, nat_tests))))
 
 -- the first i of those that pass
 early : (ℕ → Bool) → ℕ → ℕ → Bool
@@ -168,7 +161,7 @@ module _ (p q : ℕ → Bool) (apart : (k : ℕ) → p k ≡ true → q k ≡ tr
   choose n i j l m =
       record {
         numbers = picked n one;
-        choice = picked-choice n one;
+        choice = record { passes = one; is = refl };
         first = count-picked n one p ∙ count-cong n _ (early p i) (λ k _ _. grind (arith, apart k)) ∙ count-early n i p ∙ omega arith;
         second = count-picked n one q ∙ count-cong n _ (early q j) (λ k _ _. grind (arith, apart k)) ∙ count-early n j q ∙ omega arith;
         only = λ k x. grind (arith, (picked-member n one k x).2);

@@ -70,7 +70,7 @@ count-some zero p k l h t = absurd (omega arith)
 count-some (suc n) p k l h t = grind (arith, count-some n p k l)
 
 -- what two tests count beyond all of them, some pass both; and what passes one of two is counted by one of them
-shared : (n : ℕ) (p p' : ℕ → Bool) → count_in n p + count_in n p' ≤ n + count_in n (λ (k : ℕ). p k and p' k)
+pub shared : (n : ℕ) (p p' : ℕ → Bool) → count_in n p + count_in n p' ≤ n + count_in n (λ (k : ℕ). p k and p' k)
 unfolding count_in plus ◌and◌
 shared zero p p' = omega arith
 shared (suc n) p p' = grind (arith, shared n p p')

@@ -2,7 +2,7 @@
 -- and a test of the numbers 1 to n say the same. Assumes nothing.
 use Prim.Native.Nat.{ℕ, ◌+◌, ◌≤◌, ◌<◌}
 use native.Mathlib.Omega.{arith}
-use mathlib.Core.Path.{◌≡◌, sym, ap, subst, ◌∙◌}
+use mathlib.Core.Path.{◌≡◌, refl, sym, ap, subst, ◌∙◌}
 use mathlib.Core.Bool.{Bool, true}
 use mathlib.Core.Logic.{◌⊎◌, inl, inr, ⊎_elim}
 use lib.ListN.{length}
@@ -15,7 +15,7 @@ use Rattle.delivery.specs.Acceptance.{bears, allowed, accepts_ballot}
 use Rattle.delivery.specs.Claims.{AcceptsBallot, IsAllowed, Leaves}
 use Rattle.delivery.proofs.TestLaws.{same_test}
 use Rattle.delivery.proofs.CountLaws.{count-cong}
-use Rattle.delivery.proofs.ChoosingLaws.{picked, picked-choice, count-picked, length-picked, picked-member, member-picked, choice-picked}
+use Rattle.delivery.proofs.ChoosingLaws.{picked, count-picked, length-picked, picked-member, member-picked}
 use Rattle.delivery.proofs.OneRoundLaws.{Divided, Carries, after-reads, reads-after, bears-reads, reads-bears}
 use Rattle.delivery.proofs.AllRoundsLaws.{allowed-next, ballot-reads, reads-ballot}
 use Rattle.delivery.proofs.AllowanceLaws.{at_least}
@@ -63,7 +63,7 @@ module _ (n : ℕ) (h : Store) (r : ℕ) where
     leaves-carries : Leaves n h r w speakers → Carries limits n h may r w (picked n speakers)
     leaves-carries c =
         record {
-          choice = picked-choice n speakers;
+          choice = record { passes = speakers; is = refl };
           counted = λ s m.
               let p = picked-member n speakers s m in
               let x = c.accepted s p.0 p.1 p.2 in
@@ -80,12 +80,12 @@ module _ (n : ℕ) (h : Store) (r : ℕ) where
         → (w ≡ 0 → ⊥) × ((speakers : ℕ → Bool) × (count_in n speakers ≡ quorum n) × Leaves n h r w speakers)
     later-reads a =
         let x = after-reads limits n h may r w (sym (allowed-next limits n h r w low) ∙ a) in
-        let p = choice-picked x.carries.choice in (
+        let c = x.carries.choice in (
           x.value,
           (
-            p.0,
-            sym (length-picked n p.0) ∙ ap length (sym p.1) ∙ x.size,
-            carries-leaves w p.0 (subst (Carries limits n h may r w) p.1 x.carries),
+            c.passes,
+            sym (length-picked n c.passes) ∙ ap length (sym c.is) ∙ x.size,
+            carries-leaves w c.passes (subst (Carries limits n h may r w) c.is x.carries),
           ),
         )
 
