@@ -3,7 +3,7 @@ use Prim.Native.Nat.{ℕ, zero, suc, ◌+◌, ◌≤◌, min}
 use native.Mathlib.Omega.{arith}
 use mathlib.Core.Path.{◌≡◌, refl, sym, ap, ◌∙◌}
 use mathlib.Core.Bool.{Bool, true, false}
-use mathlib.Core.Logic.{◌⊎◌, inl, inr, ⊎_elim}
+use mathlib.Core.Logic.{◌⊎◌, ⊎_elim}
 use mathlib.Core.List.Memᴰ
 use mathlib.Core.List.{List, [], ◌∷◌, Memᴰ}
 use borrow.Author.Tests.{eqb-true}
@@ -110,7 +110,8 @@ length-picked (suc n) p = grind (arith, length-picked n p)
 
 -- so it shares with a set at least as many as their sizes exceed n, and holds no more of one than there are
 pub choice-shares : {n : ℕ} {ks : List ℕ} (p : ℕ → Bool) → Choice n ks → length ks + count_in n p ≤ n + count_of p ks
-choice-shares {n = n} p c = rw c.is (omega (arith, length-picked n c.passes, count-picked n c.passes p, shared n c.passes p))
+choice-shares {n = n} p c =
+    rw c.is (omega (arith, length-picked n c.passes, count-picked n c.passes p, shared n c.passes p))
 
 pub choice-within : {n : ℕ} {ks : List ℕ} (p : ℕ → Bool) → Choice n ks → count_of p ks ≤ count_in n p
 unfolding ◌and◌
@@ -143,7 +144,8 @@ count-early (suc n) i p = grind (arith, nat_tests, count-early n i p)
 
 -- what is in one of two sets, and never in both, is counted once
 module _ (p q : ℕ → Bool) (apart : (k : ℕ) → p k ≡ true → q k ≡ true → ⊥) where
-  pub length-either : (ks : List ℕ) → ((k : ℕ) → Memᴰ k ks → (p k ≡ true) ⊎ (q k ≡ true)) → length ks ≡ count_of p ks + count_of q ks
+  pub length-either : (ks : List ℕ) → ((k : ℕ) → Memᴰ k ks → (p k ≡ true) ⊎ (q k ≡ true))
+      → length ks ≡ count_of p ks + count_of q ks
   unfolding count_of plus
   length-either [] f = refl
   length-either (j ∷ ks) f = grind (arith, f j (Memᴰ.head refl), apart j, length-either ks (λ k m. f k (Memᴰ.tail m)))
@@ -162,10 +164,13 @@ module _ (p q : ℕ → Bool) (apart : (k : ℕ) → p k ≡ true → q k ≡ tr
       record {
         numbers = picked n one;
         choice = record { passes = one; is = refl };
-        first = count-picked n one p ∙ count-cong n _ (early p i) (λ k _ _. grind (arith, apart k)) ∙ count-early n i p ∙ omega arith;
-        second = count-picked n one q ∙ count-cong n _ (early q j) (λ k _ _. grind (arith, apart k)) ∙ count-early n j q ∙ omega arith;
+        first = count-picked n one p ∙ count-cong n _ (early p i) (λ k _ _. grind (arith, apart k)) ∙ all p i l;
+        second = count-picked n one q ∙ count-cong n _ (early q j) (λ k _ _. grind (arith, apart k)) ∙ all q j m;
         only = λ k x. grind (arith, (picked-member n one k x).2);
       }
     where
       one : ℕ → Bool
       one k = early p i k or early q j k
+
+      all : (p : ℕ → Bool) (i : ℕ) → i ≤ count_in n p → count_in n (early p i) ≡ i
+      all p i l = omega (arith, count-early n i p)

@@ -1,6 +1,6 @@
 -- Laws of the places at which entries stand. Assumes nothing.
-use Prim.Native.Nat.{ℕ, zero, suc, ◌+◌, ◌-◌, ◌*◌, ◌/◌, ◌≤◌, ◌<◌}
-use Rattle.std.specs.Prelude.{Option, None, Some}
+use Prim.Native.Nat.{ℕ, ◌+◌, ◌-◌, ◌*◌, ◌/◌, ◌≤◌, ◌<◌}
+use Rattle.std.specs.Prelude.{None, Some}
 use mathlib.Core.Path.{◌≡◌, sym, ap, ◌∙◌}
 use mathlib.Core.Bool.{true, false}
 use native.Mathlib.Omega.{arith}
@@ -33,7 +33,8 @@ module _ (L : Limits) (s i : ℕ) where
   unfolding place_of ◌and◌
   place-high =
       let fits = mul-add-lt (s - 1) L.identifiers (i - 1) L.boards in
-      grind (arith, fits, within_low L.boards s, within-high L.boards s, within_low L.identifiers i, within-high L.identifiers i)
+      let high = within-high L.boards s in
+      grind (arith, fits, within_low L.boards s, high, within_low L.identifiers i, within-high L.identifiers i)
 
   -- its row and where in the row it is
   row : (place_of L s i ≡ 0 → ⊥)

@@ -1,6 +1,6 @@
 -- Laws of rounds, their coordinators and their identifiers. Assumes nothing.
 use Prim.Native.Nat.{ℕ, suc, ◌+◌, ◌-◌, ◌*◌, ◌/◌, ◌≤◌, ◌<◌}
-use mathlib.Core.Path.{◌≡◌, refl}
+use mathlib.Core.Path.{◌≡◌}
 use mathlib.Core.Bool.{true, false}
 use native.Mathlib.Omega.{arith}
 use native.Mathlib.Nat.{mod-lt}
@@ -50,7 +50,8 @@ pub identifier-within : (L : Limits) (p : Phase) (r : ℕ)
     → 2 * L.rounds ≤ L.identifiers → is_round L r ≡ true → is_identifier L.identifiers (identifier_of L p r) ≡ true
 unfolding identifier_of phase_of
 identifier-within L p r w h =
-    within_in L.identifiers (identifier_of L p r) (grind (arith, within_low L.rounds r h)) (grind (arith, within-high L.rounds r h))
+    let low : 1 ≤ identifier_of L p r = grind (arith, within_low L.rounds r h) in
+    within_in L.identifiers (identifier_of L p r) low (grind (arith, within-high L.rounds r h))
 
 -- identifiers rise: the opening of a round, its ballot, the opening of the next
 pub opening-ballot : (L : Limits) (r : ℕ) → is_round L r ≡ true → identifier_of L Opening r < identifier_of L Ballot r

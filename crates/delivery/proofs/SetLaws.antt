@@ -12,10 +12,9 @@ use lib.Count.{ones, ones_cat}
 use Rattle.std.specs.Int.{w16, bit_at}
 use Rattle.std.proofs.lemmas.Bool.Decides.{nat_tests}
 use Rattle.std.proofs.lemmas.Nat.{one_shl}
-use Rattle.std.proofs.lemmas.Nat.Bits.{bit_at_above, bit_at_and, bit_at_cat_high, bit_at_cat_low, bit_at_not, bit_at_ones}
-use Rattle.std.proofs.lemmas.Nat.Bits.{bit_at_or, bit_at-lt, bit_at-pow_other, bit_at-pow_same, bit_at-zero}
+use Rattle.std.proofs.lemmas.Nat.Bits.{bit_at_above, bit_at_and, bit_at_cat_high, bit_at_cat_low, bit_at_not}
+use Rattle.std.proofs.lemmas.Nat.Bits.{bit_at_ones, bit_at_or, bit_at-pow_other, bit_at-pow_same, bit_at-zero}
 use Rattle.std.proofs.lemmas.Nat.Bits.{same_from_bits_below}
-use Rattle.std.specs.Prelude.{if◌then◌else◌}
 use Rattle.signer.specs.FromOne.{is_within}
 use Rattle.signer.proofs.FromOneLaws.{within_low, within-high, within-out}
 use Rattle.delivery.specs.Tests.{◌and◌, ◌or◌, neg}
@@ -68,13 +67,8 @@ in-set_of-passes n p k t = grind (arith, nat_tests, members n p k)
 by-bits : (n m : ℕ) (p : ℕ → Bool) → m < 2 ^ n → ((i : ℕ) → i < n → eqb (bit_at m i) 1 ≡ p (suc i)) → m ≡ set_of n p
 unfolding in_set
 by-bits n m p l h =
-    same_from_bits_below
-    n
-    m
-    (set_of n p)
-    l
-    (set-lt n p)
-    (λ i u. grind (arith, nat_tests, h i u, in-set_of-within n p (suc i) (omega arith) (omega arith)))
+    let same = λ (i : ℕ) (u : i < n). in-set_of-within n p (suc i) (omega arith) u in
+    same_from_bits_below n m (set_of n p) l (set-lt n p) (λ i u. grind (arith, nat_tests, h i u, same i u))
 
 set_is : (n m : ℕ) (p : ℕ → Bool) → m < 2 ^ n → ((k : ℕ) → 1 ≤ k → k ≤ n → in_set m k ≡ p k) → m ≡ set_of n p
 unfolding in_set
@@ -89,7 +83,7 @@ set-none n p f = sym (set_is n 0 p (pow_pos n) (λ k l u. in-none k ∙ sym (f k
 -- what fails above b makes no more of a set there, so the set fits if it has bits up to b
 pub set_beyond : (n b : ℕ) (p : ℕ → Bool) → ((k : ℕ) → b < k → p k ≡ false) → set_of n p ≡ set_of (min n b) p
 unfolding set_of
-set_beyond zero b p h = let e : 0 ≡ min 0 b = omega arith in ap (λ (m : ℕ). set_of m p) e
+set_beyond zero b p h = grind arith
 set_beyond (suc n) b p h = grind (arith, h (suc n), set_beyond n b p h)
 
 pub set-fits : (n b : ℕ) (p : ℕ → Bool) → ((k : ℕ) → b < k → p k ≡ false) → b ≤ bits → set_of n p < 2 ^ bits
@@ -101,13 +95,8 @@ pub with-next : (k : ℕ) (p : ℕ → Bool) → k < bits → p (suc k) ≡ true
     → with_board (set_of k p) (suc k) ≡ set_of (suc k) p
 unfolding with_board ◌or◌ ◌and◌
 with-next k p h t =
-    sym
-    (set_is
-    bits
-    (set_of (suc k) p)
-    (λ (j : ℕ). in_set (set_of k p) j or eqb j (suc k))
-    (omega (arith, set-lt (suc k) p, pow_mono {i = suc k} {j = bits} (omega arith)))
-    (λ j l u. grind (arith, nat_tests, members (suc k) p j, members k p j)))
+    let less : set_of (suc k) p < 2 ^ bits = omega (arith, set-lt (suc k) p, pow_mono {i = suc k} {j = bits} h) in
+    sym (set_is bits _ _ less (λ j l u. grind (arith, nat_tests, members (suc k) p j, members k p j)))
 
 pub set-take : (k set : ℕ) (p : ℕ → Bool) → set ≡ set_of k p → k < bits → p (k + 1) ≡ true
     → with_board set (k + 1) ≡ set_of (k + 1) p
@@ -151,24 +140,14 @@ minus-without m k = set-cong bits _ _ (λ j l u. grind (arith, in-with 0 k j l u
 -- the bit operations that make these sets
 pub or-union : (a b : ℕ) → a < 2 ^ bits → b < 2 ^ bits → bit_or a b ≡ union a b
 unfolding union in_set ◌or◌
-or-union a b l h =
-    by-bits
-    bits
-    _
-    _
-    (or_lt bits a b l h)
-    (λ i u. grind (arith, nat_tests, bit_at_or a b i, bit_at-lt a i, bit_at-lt b i))
+or-union a b l h = by-bits bits _ _ (or_lt bits a b l h) (λ i u. grind (arith, nat_tests, bit_at_or a b i))
 
 pub and_not-minus : (a b : ℕ) → a < 2 ^ bits → b < 2 ^ bits → bit_and a (2 ^ bits - 1 - b) ≡ minus a b
 unfolding minus in_set ◌and◌ neg
 and_not-minus a b l h =
-    by-bits
-    bits
-    _
-    _
-    (omega (arith, and_le_l a (2 ^ bits - 1 - b)))
-    (λ i u.
-    grind (arith, nat_tests, bit_at_and a (2 ^ bits - 1 - b) i, bit_at_not w16 b i h u, bit_at-lt a i, bit_at-lt b i))
+    let less : bit_and a (2 ^ bits - 1 - b) < 2 ^ bits = omega (arith, and_le_l a (2 ^ bits - 1 - b)) in
+    let bit = bit_at_and a (2 ^ bits - 1 - b) in
+    by-bits bits _ _ less (λ i u. grind (arith, nat_tests, bit i, bit_at_not w16 b i h u))
 
 -- for numbers that have a bit and for others
 pub in-unnumbered : (m k : ℕ) → m < 2 ^ bits → is_within bits k ≡ false → in_set m k ≡ false
@@ -183,15 +162,10 @@ with-unnumbered m k l h = sym (set_is bits m _ l (λ j s t. grind (arith, nat_te
 pub shifted-alone : (k : ℕ) → is_within bits k ≡ true → 1 * 2 ^ (k - 1) % 2 ^ bits ≡ with_board 0 k
 unfolding with_board in_set ◌or◌
 shifted-alone k h =
-    let u : k - 1 < bits = omega (arith, within_low bits k h, within-high bits k h) in
+    let low = within_low bits k h in
+    let u : k - 1 < bits = omega (arith, low, within-high bits k h) in
     one_shl (k - 1) bits u
-    ∙ by-bits
-    bits
-    _
-    _
-    (pow-lt {i = k - 1} {j = bits} u)
-    (λ i v.
-    grind (arith, nat_tests, within_low bits k h, bit_at-pow_same i, bit_at-pow_other (k - 1) i, bit_at-zero i))
+    ∙ by-bits bits _ _ (pow-lt u) (λ i v. grind (arith, nat_tests, low, bit_at-pow_same i, bit_at-pow_other (k - 1) i))
 
 -- the size of a set: its bits that are 1
 ones-set : (n : ℕ) (p : ℕ → Bool) → ones (set_of n p) ≡ count_in n p
@@ -212,15 +186,9 @@ count_set n k p h =
 pub ones-masked : (m n : ℕ) → n < bits → ones (bit_and m (1 * 2 ^ n % 2 ^ bits - 1)) ≡ count_in n (in_set m)
 unfolding in_set
 ones-masked m n h =
+    let less : bit_and m (2 ^ n - 1) < 2 ^ n = omega (arith, and_mask m n, mod-lt m (pow_pos n)) in
     ap (λ (x : ℕ). ones (bit_and m (x - 1))) (one_shl n bits h)
-    ∙ ap
-    ones
-    (by-bits
-    n
-    (bit_and m (2 ^ n - 1))
-    (in_set m)
-    (omega (arith, and_mask m n, mod-lt m (pow_pos n)))
-    (λ i u. grind (arith, nat_tests, bit_at_and m (2 ^ n - 1) i, bit_at_ones n i u, bit_at-lt m i)))
+    ∙ ap ones (by-bits n _ _ less (λ i u. grind (arith, nat_tests, bit_at_and m (2 ^ n - 1) i, bit_at_ones n i u)))
     ∙ ones-set n (in_set m)
 
 -- two sets of 1 to n, joined, if that fits
@@ -228,10 +196,5 @@ pub union-sets : (n : ℕ) (p p' : ℕ → Bool) → set_of n (λ (k : ℕ). p k
     → union (set_of n p) (set_of n p') ≡ set_of n (λ (k : ℕ). p k or p' k)
 unfolding union ◌or◌ ◌and◌
 union-sets n p p' l =
-    sym
-    (set_is
-    bits
-    _
-    _
-    l
-    (λ k s t. grind (arith, nat_tests, members n p k, members n p' k, members n (λ (j : ℕ). p j or p' j) k)))
+    let either = members n (λ (j : ℕ). p j or p' j) in
+    sym (set_is bits _ _ l (λ k s t. grind (arith, nat_tests, members n p k, members n p' k, either k)))

@@ -1,22 +1,21 @@
--- What is allowed in the next round, by some speakers and the accepted ballots among theirs: a choice of different numbers
--- and a test of the numbers 1 to n say the same. Assumes nothing.
-use Prim.Native.Nat.{ℕ, ◌+◌, ◌≤◌, ◌<◌}
+-- What is allowed in the next round, by some speakers and the accepted ballots among theirs: a choice of different
+-- numbers and a test of the numbers 1 to n say the same. Assumes nothing.
+use Prim.Native.Nat.{ℕ, ◌+◌, ◌≤◌}
 use native.Mathlib.Omega.{arith}
 use mathlib.Core.Path.{◌≡◌, refl, sym, ap, subst, ◌∙◌}
 use mathlib.Core.Bool.{Bool, true}
-use mathlib.Core.Logic.{◌⊎◌, inl, inr, ⊎_elim}
+use mathlib.Core.Logic.{inl, inr, ⊎_elim}
 use lib.ListN.{length}
 use Rattle.delivery.specs.Tests.{◌and◌}
 use Rattle.delivery.specs.Counting.{count_in, count_of}
 use Rattle.delivery.specs.Limits.{limits}
-use Rattle.delivery.specs.Bus.{quorum, overlap}
+use Rattle.delivery.specs.Bus.{quorum}
 use Rattle.delivery.specs.Delivered.{Store}
 use Rattle.delivery.specs.Acceptance.{bears, allowed, accepts_ballot}
-use Rattle.delivery.specs.Claims.{AcceptsBallot, IsAllowed, Leaves}
-use Rattle.delivery.proofs.TestLaws.{same_test}
+use Rattle.delivery.specs.Claims.{AcceptsBallot, IsAllowed, Leaves, ballots_among}
 use Rattle.delivery.proofs.CountLaws.{count-cong}
 use Rattle.delivery.proofs.ChoosingLaws.{picked, count-picked, length-picked, picked-member, member-picked}
-use Rattle.delivery.proofs.OneRoundLaws.{Divided, Carries, after-reads, reads-after, bears-reads, reads-bears}
+use Rattle.delivery.proofs.OneRoundLaws.{Carries, AllowedNext, after-reads, reads-after, bears-reads, reads-bears}
 use Rattle.delivery.proofs.AllRoundsLaws.{allowed-next, ballot-reads, reads-ballot}
 use Rattle.delivery.proofs.AllowanceLaws.{at_least}
 
@@ -28,29 +27,23 @@ module _ (n : ℕ) (h : Store) (r : ℕ) where
   count-accepted : (speakers : ℕ → Bool)
       → ((s : ℕ) → 1 ≤ s → s ≤ n → speakers s ≡ true → (v : ℕ) × AcceptsBallot n h r s v)
       → (v : ℕ)
-      → count_of (bears limits h r v) (picked n speakers)
-      ≡ count_in n (λ (s : ℕ). speakers s and accepts_ballot limits n h r s v)
+      → count_of (bears limits h r v) (picked n speakers) ≡ ballots_among n h r speakers v
   unfolding ◌and◌
   count-accepted speakers f v =
-      count-picked n speakers (bears limits h r v)
-      ∙ count-cong n _ _ (λ s l u. grind (arith, f s l u, same s))
+      count-picked n speakers (bears limits h r v) ∙ count-cong n _ _ (λ s l u. grind (arith, f s l u, same s))
     where
       same : (s w : ℕ) → AcceptsBallot n h r s w → bears limits h r v s ≡ accepts_ballot limits n h r s v
       same s w x =
-          same_test
-          (bears limits h r v s)
-          (accepts_ballot limits n h r s v)
-          (λ b.
-          let e : w ≡ v = omega (arith, bears-reads limits h r v s b, (ballot-reads limits n h r s w x).said) in
-          rw e at x)
-          (λ b. reads-bears limits h r v s (ballot-reads limits n h r s v b).said)
+          let said = λ (v : ℕ) (b : AcceptsBallot n h r s v). (ballot-reads limits n h r s v b).said in
+          grind (arith, said w x, said v, bears-reads limits h r v s, reads-bears limits h r v s)
 
   -- a choice that carries w into the next round is of speakers that leave it, and the other way round
   module _ (w : ℕ) (speakers : ℕ → Bool) where
     carries-leaves : Carries limits n h may r w (picked n speakers) → Leaves n h r w speakers
     carries-leaves c =
         let accepted : (s : ℕ) → 1 ≤ s → s ≤ n → speakers s ≡ true → (v : ℕ) × AcceptsBallot n h r s v =
-        λ s l u t. let x = c.counted s (member-picked n speakers s l u t) in (x.0, reads-ballot limits n h r s x.0 x.1) in
+        λ s l u t.
+        let x = c.counted s (member-picked n speakers s l u t) in (x.0, reads-ballot limits n h r s x.0 x.1) in
         record {
           accepted = accepted;
           reason =
@@ -92,34 +85,17 @@ module _ (n : ℕ) (h : Store) (r : ℕ) where
     pub reads-later : (w ≡ 0 → ⊥) × ((speakers : ℕ → Bool) × (count_in n speakers ≡ quorum n) × Leaves n h r w speakers)
         → IsAllowed n h (r + 1) w
     reads-later x =
-        allowed-next limits n h r w low
-        ∙ reads-after
-        limits
-        n
-        h
-        may
-        r
-        w
-        (record {
+        let a : AllowedNext limits n h may r w = record {
           value = x.0;
           speakers = picked n x.1.0;
           size = length-picked n x.1.0 ∙ x.1.1;
           carries = leaves-carries w x.1.0 x.1.2;
-        })
+        } in
+        allowed-next limits n h r w low ∙ reads-after limits n h may r w a
 
-    pub more-speakers : 1 ≤ n → (w ≡ 0 → ⊥) → (speakers : ℕ → Bool) → quorum n ≤ count_in n speakers → Leaves n h r w speakers
-        → IsAllowed n h (r + 1) w
+    pub more-speakers : 1 ≤ n → (w ≡ 0 → ⊥) → (speakers : ℕ → Bool)
+        → quorum n ≤ count_in n speakers → Leaves n h r w speakers → IsAllowed n h (r + 1) w
     more-speakers some z speakers l c =
+        let many : quorum n ≤ length (picked n speakers) = omega (arith, l, length-picked n speakers) in
         allowed-next limits n h r w low
-        ∙ at_least
-        limits
-        n
-        h
-        may
-        r
-        w
-        (picked n speakers)
-        some
-        z
-        (omega (arith, l, length-picked n speakers))
-        (leaves-carries w speakers c)
+        ∙ at_least limits n h may r w (picked n speakers) some z many (leaves-carries w speakers c)
