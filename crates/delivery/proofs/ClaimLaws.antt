@@ -1,8 +1,7 @@
 -- What src/claims promises of every store and of every record of owed copies, by the laws of each subject. Assumes nothing.
 use Prim.Native.Nat.{ℕ}
-use mathlib.Core.Path.{◌≡◌, sym, ap, ◌∙◌}
-use mathlib.Core.Bool.{true≢false}
-use mathlib.Core.Logic.{inl, inr, ⊎_elim}
+use mathlib.Core.Path.{sym, ap, ◌∙◌}
+use mathlib.Core.Bool.{Bool, true≢false}
 use Rattle.delivery.specs.Limits.{limits}
 use Rattle.delivery.specs.Sets.{in_set}
 use Rattle.delivery.specs.declared.owed.Owed.{Owed}
@@ -28,15 +27,18 @@ use Rattle.delivery.specs.Claims.{
   OthersOwed,
   SetsStay,
 }
+use Rattle.delivery.specs.Acceptance.{allowed, accepts_opening, accepts_ballot}
+use Rattle.delivery.specs.Delivered.{Store}
+use Rattle.delivery.specs.Claims.{Leaves}
 use Rattle.delivery.proofs.SetLaws.{in-none}
 use Rattle.delivery.proofs.DeliveredLaws as delivered
 use Rattle.delivery.proofs.OwedLaws as owed
 use Rattle.delivery.proofs.EchoLaws as echo
-use Rattle.delivery.proofs.OneRoundLaws.{some-value, value-some}
-use Rattle.delivery.proofs.AllRoundsLaws.{allowed-first, opening-reads, reads-opening, ballot-reads, reads-ballot, accepted-reads, reads-accepted, one-accepted}
+use Rattle.delivery.proofs.OneRoundLaws as round
+use Rattle.delivery.proofs.OneRoundLaws.{some-value, value-some, counts-some, some-counts}
+use Rattle.delivery.proofs.AllRoundsLaws.{allowed-first, allowed-next, allowed-blank, opening-reads, reads-opening, ballot-reads, reads-ballot, accepted-reads, reads-accepted}
 use Rattle.delivery.proofs.AgreementLaws.{won-one, later-only}
 use Rattle.delivery.proofs.GrowthLaws.{deliver-grows, allowed-grows, opening-grows, ballot-grows, won-grows}
-use Rattle.delivery.proofs.SpeakerLaws as speaker
 
 pub openings : Openings
 openings n h r w = (
@@ -46,20 +48,8 @@ openings n h r w = (
 
 pub ballots : Ballots
 ballots n h r s w = (
-  λ a.
-      let b = ballot-reads limits n h r s w a in (
-        b.said,
-        ⊎_elim (λ (z : w ≡ 0). inl z) (λ o. inr (reads-opening limits n h r w o)) b.backed,
-      ),
-  λ b.
-      reads-ballot
-      limits
-      n
-      h
-      r
-      s
-      w
-      (record { said = b.0; backed = ⊎_elim (λ (z : w ≡ 0). inl z) (λ o. inr (opening-reads limits n h r w o)) b.1 }),
+  λ a. let b = ballot-reads limits n h r s w a in (b.said, b.backed),
+  λ b. reads-ballot limits n h r s w (record { said = b.0; backed = b.1 }),
 )
 
 pub some-ballots : SomeBallots
@@ -71,14 +61,33 @@ first-round n h w = (
   λ z. allowed-first limits n h w ∙ value-some w z,
 )
 
+-- speakers leave a value as one round has it
+leaves : (n : ℕ) (h : Store) (r w : ℕ) (p : ℕ → Bool) → Leaves n h r w p → round.Leaves limits n h (allowed limits n h r) r w p
+unfolding accepts_ballot
+leaves n h r w p l =
+    record { counted = λ s a b t. let x = l.accepted s a b t in counts-some limits n h (allowed limits n h r) r x.0 s x.1; reason = l.reason }
+
 pub later-rounds : LaterRounds
-later-rounds n h r w low = (speaker.later-reads n h r w low, speaker.reads-later n h r w low)
+unfolding accepts_ballot
+later-rounds n h r w low = (
+  λ a.
+      let x = round.after-reads limits n h (allowed limits n h r) r w (sym (allowed-next limits n h r w low) ∙ a) in
+      (x.0, (x.1.0, x.1.1, record { accepted = λ s a b t. some-counts limits n h (allowed limits n h r) r s (x.1.2.counted s a b t); reason = x.1.2.reason })),
+  λ x.
+      allowed-next limits n h r w low
+      ∙ round.reads-after limits n h (allowed limits n h r) r w x.0 x.1.0 x.1.1 (leaves n h r w x.1.0 x.1.2),
+)
 
 pub more-speakers : MoreSpeakers
-more-speakers n h r w some low = speaker.more-speakers n h r w low some
+more-speakers n h r w some low z p q l =
+    let may = allowed limits n h r in
+    let plain = allowed-blank limits n h r in
+    allowed-next limits n h r w low
+    ∙ round.counts-after limits n h may r plain w some (round.leaves-next limits n h may r plain w p some z q (leaves n h r w p l))
 
 pub one-opening : OneOpening
-one-opening = one-accepted limits
+unfolding accepts_opening
+one-opening n h r = round.one-opening limits n h (allowed limits n h r) r
 
 pub one-won : OneWon
 one-won = won-one limits

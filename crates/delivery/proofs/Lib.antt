@@ -6,14 +6,13 @@ pub mod PlaceLaws
 pub mod DeliveredLaws
 pub mod OwedLaws
 pub mod EchoLaws
-pub mod ChoosingLaws
+pub mod ChoiceLaws
 pub mod OneRoundLaws
 pub mod AllRoundsLaws
 pub mod AgreementLaws
 pub mod GrowthLaws
 pub mod AllowanceLaws
-pub mod SpeakerLaws
-pub mod PassLaws
+pub mod PollLaws
 pub mod ClaimLaws
 pub mod ExampleLaws
 pub mod Rules
