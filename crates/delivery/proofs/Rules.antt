@@ -3,13 +3,10 @@ use Rattle.std.proofs.lemmas.Bool.Decides.{nat_tests}
 use Rattle.delivery.proofs.TestLaws.{and-yes-left, and-no-left, or-no-left, or_left}
 use Rattle.delivery.proofs.AllRoundsLaws.{allowed-blank, ballot-sent, ballot-unopened, says-low}
 use Rattle.delivery.proofs.OneRoundLaws.{backs-value}
-use Rattle.delivery.proofs.DeliveredLaws.{deliver-at, deliver-none, deliver-taken, heard-at, heard-none}
-use Rattle.delivery.proofs.OwedLaws.{delivery-set, nobody-at, signing-set, with-at, with-nobody}
 use Rattle.delivery.proofs.PollLaws.{alone, backs-test, bearing-found, joined}
 use Rattle.delivery.proofs.AllowanceLaws.{every-nobody, every_first, nothing_before, pass-turn}
-use Rattle.delivery.proofs.PlaceLaws.{index-high, index-nobody, index-outside, index-there}
 use Rattle.delivery.proofs.SetLaws.{and_not-minus, count_set, in-index, in-unnumbered, minus-without, ones-every, ones-masked, or-union, set-none, set-take, shifted-alone, union-alone, with-unnumbered, set-cong}
-use Rattle.signer.proofs.FromOneLaws.{get_none, get_some, within-high, within_low}
+use Rattle.signer.proofs.FromOneLaws.{within-high, within_low}
 
 pub ruleset rules_round_round_identifier = (within-high, within_low)
 
@@ -27,12 +24,6 @@ pub ruleset rules_set_boardset_insert = (union-alone)
 
 pub ruleset rules_set_boardset_remove = (minus-without)
 
-pub ruleset rules_delivered_delivered_deliver = (deliver-none, deliver-at, deliver-taken, index-high)
-
-pub ruleset rules_delivered_delivered_entry = (heard-none, heard-at, index-high)
-
-pub ruleset rules_delivered_delivered_index = (index-nobody, index-outside, index-there, within_low)
-
 pub ruleset tests = (nat_tests, and-yes-left, and-no-left, or_left, or-no-left)
 
 pub ruleset accepts = (nat_tests, and-yes-left, and-no-left, or_left, or-no-left, allowed-blank)
@@ -48,11 +39,3 @@ pub ruleset allows = (says-low)
 pub ruleset rules_poll_poll_bearing = (set-none, bearing-found, backs-test, set-take)
 
 pub ruleset rules_poll_poll_count_bearing = (count_set)
-
-pub ruleset rules_owed_owed_record_delivery = (delivery-set)
-
-pub ruleset rules_owed_owed_set_receivers = (with-nobody, with-at, within-high, within_low)
-
-pub ruleset rules_owed_owed_with_lacking = (signing-set)
-
-pub ruleset rules_owed_owed_receivers = (nobody-at, get_none, get_some)
