@@ -13,6 +13,5 @@ pub mod AgreementLaws
 pub mod GrowthLaws
 pub mod AllowanceLaws
 pub mod PollLaws
-pub mod ClaimLaws
 pub mod ExampleLaws
 pub mod Rules
