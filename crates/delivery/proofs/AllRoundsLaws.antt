@@ -11,8 +11,8 @@ use Rattle.signer.specs.Log.{entry_of}
 use Rattle.delivery.specs.Tests.{neg, ◌and◌, ◌or◌}
 use Rattle.delivery.specs.Limits.{Limits}
 use Rattle.delivery.specs.Delivered.{Store}
-use Rattle.delivery.specs.Acceptance.{says, opening_entry, ballot_entry, bears, opens, counts, allowed_after, allowed, accepts_opening, accepts_ballot, accepts_some}
-use Rattle.delivery.proofs.OneRoundLaws.{some-counts, counts-some}
+use Rattle.delivery.specs.Acceptance.{says, opening_entry, ballot_entry, bears, opens, counts, counts_some, allowed_after, allowed, accepts_opening, accepts_ballot, accepts_some}
+use Rattle.delivery.proofs.TestLaws.{and-yes-left, and-no-left, or-no-left, or_left}
 
 module _ (L : Limits) (n : ℕ) (h : Store) where
   -- in round 1 every value is allowed, and in a later one what the one before leaves
@@ -48,6 +48,9 @@ module _ (L : Limits) (n : ℕ) (h : Store) (r : ℕ) where
   unfolding accepts_opening opens ◌and◌ neg
   reads-opening w o = grind (arith, nat_tests)
 
+  pub one-opening : (v w : ℕ) → accepts_opening L n h r v ≡ true → accepts_opening L n h r w ≡ true → v ≡ w
+  one-opening v w o p = omega (arith, (opening-reads v o).said, (opening-reads w p).said)
+
   -- a ballot is accepted: it was sent, and is blank or its opening is accepted
   pub record Counts (s w : ℕ) : Type 0 where
     pub said : ballot_entry L h r s ≡ entry_of w
@@ -68,21 +71,25 @@ module _ (L : Limits) (n : ℕ) (h : Store) (r : ℕ) where
   unfolding accepts_ballot accepts_opening counts bears ◌and◌ ◌or◌
   ballot-sent s w o = grind (arith, nat_tests)
 
-  -- and from s, whatever it bears
-  pub accepted-reads : (s : ℕ) → accepts_some L n h r s ≡ true → (w : ℕ) × (accepts_ballot L n h r s w ≡ true)
-  unfolding accepts_some accepts_ballot
-  accepted-reads = some-counts L n h (allowed L n h r) r
-
-  pub reads-accepted : (s w : ℕ) → accepts_ballot L n h r s w ≡ true → accepts_some L n h r s ≡ true
-  unfolding accepts_some accepts_ballot
-  reads-accepted s w = counts-some L n h (allowed L n h r) r w s
-
-  -- without its opening no ballot with a value is
   pub ballot-unopened : (s w : ℕ) → (w ≡ 0 → ⊥) → accepts_opening L n h r w ≡ false → accepts_ballot L n h r s w ≡ false
   unfolding accepts_ballot accepts_opening counts ◌and◌ ◌or◌
   ballot-unopened s w z o = grind (arith, nat_tests)
 
-  -- nor is the value of an entry of nothing or of the blank allowed
+  -- and from s, whatever it bears
+  pub accepted-reads : (s : ℕ) → accepts_some L n h r s ≡ true → (w : ℕ) × (accepts_ballot L n h r s w ≡ true)
+  unfolding accepts_some accepts_ballot counts_some says counts bears ◌and◌ ◌or◌
+  accepted-reads s b = grind (arith, nat_tests)
+
+  pub reads-accepted : (s w : ℕ) → accepts_ballot L n h r s w ≡ true → accepts_some L n h r s ≡ true
+  unfolding accepts_some accepts_ballot counts_some says counts bears ◌and◌ ◌or◌
+  reads-accepted s w b = grind (arith, nat_tests)
+
+  -- the value of an entry of nothing or of the blank is not allowed
   pub says-low : (x : ℕ) → x < 2 → says x (allowed L n h r) ≡ false
   unfolding says
   says-low x l = grind (arith, allowed-blank L n h r)
+
+-- for the functions
+pub ruleset accepts = (nat_tests, and-yes-left, and-no-left, or_left, or-no-left, allowed-blank)
+
+pub ruleset allows = (says-low)

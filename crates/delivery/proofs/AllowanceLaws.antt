@@ -15,48 +15,45 @@ use Rattle.delivery.specs.Counting.{plus, count_in, count_of, every_of, some_cho
 use Rattle.delivery.specs.Limits.{Limits}
 use Rattle.delivery.specs.Bus.{quorum, overlap}
 use Rattle.delivery.specs.Delivered.{Store}
-use Rattle.delivery.specs.Acceptance.{says, opening_entry, bears, backs, opens, counts, allowed_after, allowed, accepts_ballot, accepts_some}
+use Rattle.delivery.specs.Acceptance.{says, opening_entry, bears, backs, allowed_after, allowed, accepts_ballot, accepts_some}
 use Rattle.delivery.specs.Private.{lets}
 use Rattle.delivery.specs.declared.allowance.Allowance.{Allowance}
 use Rattle.delivery.specs.declared.allowance.Allowance.TheVariants.{Nothing, Every, Only}
-use Rattle.delivery.proofs.CountLaws.{overlap-pos, count-mono, count-or, find}
-use Rattle.delivery.proofs.OneRoundLaws.{entry, blank, backing, opens-entry, some-either, value-among, backing-few, by-counts, after-counts}
-use Rattle.delivery.proofs.AllRoundsLaws.{allowed-next, allowed-blank}
+use Rattle.delivery.proofs.TestLaws.{and-yes-left, and-no-left}
+use Rattle.delivery.proofs.CountLaws.{overlap-pos, count-cong, count-or, find}
+use Rattle.delivery.proofs.AllRoundsLaws.{allowed-blank, ballot-needs}
+use Rattle.delivery.proofs.OneRoundLaws.{entry, blank, backing, opened-entry, some-either, value-among, backing-few, by-counts, later-counts}
 
 -- where q boards or more have an accepted ballot
 module _ (L : Limits) (n : ℕ) (h : Store) (r : ℕ) (some : 1 ≤ n) (low : 1 ≤ r) (enough : quorum n ≤ count_in n (accepts_some L n h r)) where
-  abbrev may : ℕ → Bool
-  may = allowed L n h r
-
-  next : (w : ℕ) → allowed L n h (suc r) w ≡ by-counts n (entry L n h may r) (blank L n h may r) (backing L n h may r) w (may w)
-  next w = rw (← add-one r, allowed-next L n h r w low) (after-counts L n h may r (allowed-blank L n h r) w some)
+  next : (w : ℕ) → allowed L n h (suc r) w ≡ by-counts n (entry L n h r) (blank L n h r) (backing L n h r) w (allowed L n h r w)
+  next w = rw (← add-one r) (later-counts L n h r w low some)
 
   -- so many are blank or bear the opening's value
-  counted : quorum n ≤ blank L n h may r + backing L n h may r
-  unfolding accepts_some
+  counted : quorum n ≤ blank L n h r + backing L n h r
   counted =
       omega (
         arith,
         enough,
-        count-mono n (accepts_some L n h r) (λ (s : ℕ). bears L h r 0 s or backs L h r (entry L n h may r) s) (λ s l u b. rw (some-either L n h may r (allowed-blank L n h r) s) at b),
-        count-or n (bears L h r 0) (backs L h r (entry L n h may r)),
+        count-or n (bears L h r 0) (backs L h r (entry L n h r)),
+        count-cong n _ (λ (s : ℕ). bears L h r 0 s or backs L h r (entry L n h r) s) (λ s l u. some-either L n h r s),
       )
 
   -- a value that e or more of them bear is allowed in the next round
   pub borne-next : (w : ℕ) → (w ≡ 0 → ⊥) → overlap n ≤ count_in n (λ (s : ℕ). accepts_ballot L n h r s w) → allowed L n h (suc r) w ≡ true
-  unfolding by-counts accepts_ballot counts ◌and◌ ◌or◌ neg
+  unfolding by-counts ◌and◌ ◌or◌ neg
   borne-next w z l =
-      let s = find n (counts L n h may r w) (omega (arith, l, overlap-pos n some)) in
-      let o : opens L n h may r w ≡ true = grind (arith, nat_tests, s.3) in
-      let k = value-among L n h may r (allowed-blank L n h r) (λ (s : ℕ). true) w z o in
-      rw next (grind (arith, nat_tests, counted, k, opens-entry L n h may r (allowed-blank L n h r) w))
+      let s = find n (λ (s : ℕ). accepts_ballot L n h r s w) (omega (arith, l, overlap-pos n some)) in
+      let o = ballot-needs L n h r s.0 w z s.3 in
+      let k = value-among L n h r (λ (s : ℕ). true) w z o in
+      rw next (grind (arith, nat_tests, counted, k, o, opened-entry L n h r w))
 
   -- and where no value has so many, one that is allowed in this round
   pub kept_next : (w : ℕ) → ((v : ℕ) → (v ≡ 0 → ⊥) → count_in n (λ (s : ℕ). accepts_ballot L n h r s v) < overlap n)
       → allowed L n h r w ≡ true → allowed L n h (suc r) w ≡ true
-  unfolding by-counts accepts_ballot ◌and◌ ◌or◌ neg
+  unfolding by-counts ◌and◌ ◌or◌ neg
   kept_next w f a =
-      let k = backing-few L n h may r (allowed-blank L n h r) (λ (s : ℕ). true) (overlap n) (overlap-pos n some) f in
+      let k = backing-few L n h r (λ (s : ℕ). true) (overlap n) (overlap-pos n some) f in
       rw next (grind (arith, nat_tests, counted, k, allowed-blank L n h r))
 
 -- what a round leaves of a by its counts, where x is the entry of the opening that was sent and e that of the one that counts
@@ -101,14 +98,19 @@ module _ (L : Limits) (n : ℕ) (h : Store) where
       → lets a' ≡ allowed L n h (r + 1)
   unfolding entry says backs
   pass-turn a a' r b c f some low blanks backers left =
-      let may = allowed L n h r in
       let sent = opening_entry L n h r in
-      let says-same : says sent (lets a) ≡ says sent may = ap (says sent) f in
-      let backed : c ≡ backing L n h may r = grind (arith, unbacked r n) in
-      let counting : (entry L n h may r ≡ sent) ⊎ ((entry L n h may r ≡ 0) × (c ≡ 0)) = grind arith in
+      let says-same : says sent (lets a) ≡ says sent (allowed L n h r) = ap (says sent) f in
+      let backed : c ≡ backing L n h r = grind (arith, unbacked r n) in
+      let counting : (entry L n h r ≡ sent) ⊎ ((entry L n h r ≡ 0) × (c ≡ 0)) = grind arith in
       fun_ext
       (λ w.
-      let passes : entry L n h may r ≡ entry_of w → lets a w ≡ true = λ e. ap (λ (p : ℕ → Bool). p w) f ∙ (grind (arith, e)) in
-      let next = settled a n sent (entry L n h may r) b c w (omega (arith, some)) counting passes in
-      let same = after-counts L n h may r (allowed-blank L n h r) w (omega (arith, some)) in
-      rw (allowed-next L n h r w low, left) (next ∙ (cc (ap (λ (p : ℕ → Bool). p w) f)) ∙ sym same))
+      let same : lets a w ≡ allowed L n h r w = ap (λ (p : ℕ → Bool). p w) f in
+      let passes : entry L n h r ≡ entry_of w → lets a w ≡ true = λ e. grind (arith, e) in
+      let next = settled a n sent (entry L n h r) b c w (omega (arith, some)) counting passes in
+      let later = later-counts L n h r w low (omega (arith, some)) in
+      rw left (next ∙ (cc same) ∙ sym later))
+
+-- for the functions
+pub ruleset allowance = (nothing_before, every-nobody, every_first, pass-turn)
+
+pub ruleset passing = (nat_tests, and-yes-left, and-no-left)

@@ -15,7 +15,7 @@ use Rattle.delivery.specs.Rounds.{coordinator, phase_of, identifier_of, next_rou
 use Rattle.delivery.specs.Sets.{in_set, set_of, with_board, without_board, union, minus}
 use Rattle.delivery.specs.Delivered.{place_of, index_at, index_of, heard_in, nothing_delivered, heard, deliver}
 use Rattle.delivery.specs.Owed.{no_copies, receivers_at, with_receivers_at, nothing_owed, copies_of, with_copies, receivers, with_receivers, lacks, after_signing, after_delivery}
-use Rattle.delivery.specs.Acceptance.{says, opening_entry, bears, backs, allowed}
+use Rattle.delivery.specs.Acceptance.{says, opening_entry, bears, backs, allowed, accepts_opening}
 use Rattle.delivery.specs.Private.{lets}
 use Rattle.delivery.specs.declared.allowance.Allowance.{Allowance}
 use Rattle.delivery.specs.declared.allowance.Allowance.TheVariants.{Nothing, Every, Only}
@@ -137,6 +137,6 @@ unfolding
 letter-k v = (
   refl,
   λ s w z.
-      let none = fails _ (λ o. omega (arith, (opening-reads limits 4 (heard limits (unopened v)) 1 w o).said)) in
+      let none = fails (accepts_opening limits 4 (heard limits (unopened v)) 1 w) (λ o. omega (arith, (opening-reads limits 4 (heard limits (unopened v)) 1 w o).said)) in
       ballot-unopened limits 4 (heard limits (unopened v)) 1 s w z none,
 )

@@ -7,8 +7,8 @@ pub mod DeliveredLaws
 pub mod OwedLaws
 pub mod EchoLaws
 pub mod ChoiceLaws
-pub mod OneRoundLaws
 pub mod AllRoundsLaws
+pub mod OneRoundLaws
 pub mod AgreementLaws
 pub mod GrowthLaws
 pub mod AllowanceLaws

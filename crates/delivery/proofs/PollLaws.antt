@@ -16,9 +16,11 @@ use Rattle.delivery.specs.Delivered.{heard_in}
 use Rattle.delivery.specs.Acceptance.{says, opening_entry, ballot_entry, bears, backs, counts, opens, counts_some, allowed, accepts_some}
 use Rattle.delivery.specs.declared.round.Phase.TheVariants.{Ballot}
 use Rattle.signer.proofs.FromOneLaws.{within-high}
-use Rattle.delivery.proofs.SetLaws.{union-sets, set-cong, set_beyond, set-fits}
+use Rattle.delivery.proofs.SetLaws.{union-sets, set-none, set-take, set-cong, set_beyond, set-fits}
 use Rattle.delivery.proofs.DeliveredLaws.{heard-nobody}
 use Rattle.delivery.proofs.TestLaws.{fails}
+use Rattle.delivery.proofs.AllRoundsLaws.{ballot-sent, ballot-unopened}
+use Rattle.delivery.proofs.OneRoundLaws.{backs-value}
 
 module _ (L : Limits) (es : List ℕ) (r : ℕ) where
   -- a number that no board can have bears nothing
@@ -59,3 +61,8 @@ module _ (L : Limits) (es : List ℕ) (r n : ℕ) where
       → set_of n (backs L (heard_in L es) r (entry_of 0)) ≡ set_of n (accepts_some L n (heard_in L es) r)
   unfolding accepts_some counts_some counts opens says backs bears ◌and◌ ◌or◌ neg
   alone f = set-cong n _ _ (λ s a b. grind (arith, nat_tests))
+
+-- for the functions
+pub ruleset bearing = (set-none, bearing-found, backs-test, set-take)
+
+pub ruleset backing = (set-none, backs-value, ballot-sent, ballot-unopened)

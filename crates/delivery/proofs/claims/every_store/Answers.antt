@@ -1,31 +1,26 @@
 -- Each claim is a law, or what the laws of its subject say together. Assumes nothing.
-use Prim.Native.Nat.{ℕ, suc}
+use Prim.Native.Nat.{ℕ}
 use native.Mathlib.Omega.{arith}
-use mathlib.Core.Path.{◌≡◌, sym, ◌∙◌}
-use mathlib.Core.Bool.{Bool, true}
+use mathlib.Core.Bool.{Bool}
 use Rattle.std.proofs.lemmas.Bool.Decides.{nat_tests}
 use Rattle.delivery.specs.Limits.{limits}
 use Rattle.delivery.specs.Delivered.{Store}
 use Rattle.delivery.specs.Tests.{neg}
-use Rattle.delivery.specs.Acceptance.{allowed, accepts_opening, accepts_ballot}
 use Rattle.delivery.specs.Claims.{Leaves}
 use Rattle.delivery.proofs.CountLaws.{sizes-fit, quorums-share, overlap-pos}
 use Rattle.delivery.proofs.RoundLaws.{coordinator-turns}
 use Rattle.delivery.proofs.OneRoundLaws as round
-use Rattle.delivery.proofs.AllRoundsLaws.{allowed-first, allowed-next, allowed-blank, opening-reads, reads-opening, ballot-reads, reads-ballot, accepted-reads, reads-accepted}
+use Rattle.delivery.proofs.AllRoundsLaws.{allowed-first, opening-reads, reads-opening, one-opening, ballot-reads, reads-ballot, accepted-reads, reads-accepted}
 use Rattle.delivery.proofs.AgreementLaws.{won-one, later-only}
 use Rattle.delivery.proofs.GrowthLaws.{allowed-grows, opening-grows, ballot-grows, won-grows}
 use Rattle.delivery.proofs.claims.every_store.Goals as goal
 
 -- speakers that leave w, as the laws of one round say it
-leaves : (n : ℕ) (h : Store) (r w : ℕ) (p : ℕ → Bool) → Leaves n h r w p → round.Leaves limits n h (allowed limits n h r) r w p
-unfolding accepts_ballot
-leaves n h r w p l =
-    let counts = round.counts-some limits n h (allowed limits n h r) r in
-    record { counted = λ s a b t. let x = l.accepted s a b t in counts x.0 s x.1; reason = l.reason }
+leaves : (n : ℕ) (h : Store) (r w : ℕ) (p : ℕ → Bool) → Leaves n h r w p → round.Leaves limits n h r w p
+leaves n h r w p l = record { accepted = l.accepted; reason = l.reason }
 
 pub returns : goal.returns
-unfolding accepts_opening accepts_ballot neg
+unfolding neg
 returns c =
     record {
       sizes = sizes-fit;
@@ -42,18 +37,15 @@ returns c =
       );
       some_ballots = λ n h r s. (accepted-reads limits n h r s, λ b. reads-accepted limits n h r s b.0 b.1);
       first_round = λ n h w. rw (allowed-first limits n h w) (λ a. grind (arith, nat_tests), λ z. grind (arith, nat_tests));
-      later_rounds = λ n h r w low. rw (allowed-next limits n h r w low) (
+      later_rounds = λ n h r w low. (
         λ a.
-            let x = round.after-reads limits n h (allowed limits n h r) r w a in
-            let some = round.some-counts limits n h (allowed limits n h r) r in
-            (x.0, (x.1.0, x.1.1, record { accepted = λ s a b t. some s (x.1.2.counted s a b t); reason = x.1.2.reason })),
-        λ x. round.reads-after limits n h (allowed limits n h r) r w x.0 x.1.0 x.1.1 (leaves n h r w x.1.0 x.1.2),
+            let x = round.later-reads limits n h r w low a in
+            (x.0, (x.1.0, x.1.1, record { accepted = x.1.2.accepted; reason = x.1.2.reason })),
+        λ x. round.reads-later limits n h r w low x.0 x.1.0 x.1.1 (leaves n h r w x.1.0 x.1.2),
       );
       more_speakers = λ n h r w some low z p q l.
-          let plain = allowed-blank limits n h r in
-          let next = round.leaves-next limits n h (allowed limits n h r) r plain w p some z q (leaves n h r w p l) in
-          rw (allowed-next limits n h r w low) (round.counts-after limits n h (allowed limits n h r) r plain w some next);
-      one_opening = λ n h r. round.one-opening limits n h (allowed limits n h r) r;
+          round.counts-later limits n h r w low some (round.leaves-counts limits n h r w p some z q (leaves n h r w p l));
+      one_opening = one-opening limits;
       one_won = won-one limits;
       only_later = later-only limits;
       grows = λ n h h' g.
