@@ -1,28 +1,29 @@
 -- The examples of specs/Examples: those that compute, and then those about acceptance, for every value. Assumes nothing.
-use Prim.Native.Nat.{ℕ, ◌≤◌}
+use Prim.Native.Nat.{ℕ, ◌+◌, ◌-◌, min}
 use native.Mathlib.Omega.{arith}
 use mathlib.Core.Path.{◌≡◌, refl, sym, ap, ◌∙◌}
-use mathlib.Core.Bool.{Bool, true}
-use borrow.Author.Tests.{eqb-true, eq-eqb}
-use lib.Dec.{eqb}
+use mathlib.Core.Bool.{Bool}
+use lib.Dec.{leb}
 use Rattle.signer.specs.FromOne.{is_within, nth, set_nth}
-use Rattle.signer.specs.Log.{entry_of}
 use Rattle.delivery.specs.Tests.{◌and◌, ◌or◌, neg}
 use Rattle.delivery.specs.Counting.{plus, count_in}
+use Rattle.std.specs.Prelude.{if◌then◌else◌}
+use Rattle.std.proofs.lemmas.Bool.Decides.{nat_tests}
+use Rattle.delivery.specs.Bus.{quorum, overlap}
 use Rattle.delivery.specs.Limits.{limits}
 use Rattle.delivery.specs.Rounds.{coordinator, phase_of, identifier_of, next_round}
 use Rattle.delivery.specs.Sets.{in_set, set_of, with_board, without_board, union, minus}
 use Rattle.delivery.specs.Delivered.{place_of, index_at, index_of, heard_in, nothing_delivered, heard, deliver}
 use Rattle.delivery.specs.Owed.{no_copies, receivers_at, with_receivers_at, nothing_owed, copies_of, with_copies, receivers, with_receivers, lacks, after_signing, after_delivery}
-use Rattle.delivery.specs.Acceptance.{says, bears, backs, allowed}
+use Rattle.delivery.specs.Acceptance.{says, opening_entry, bears, backs, allowed, accepts_opening}
 use Rattle.delivery.specs.Private.{lets}
 use Rattle.delivery.specs.declared.allowance.Allowance.{Allowance}
 use Rattle.delivery.specs.declared.allowance.Allowance.TheVariants.{Nothing, Every, Only}
 use Rattle.delivery.specs.Examples.{nine-blank, blank-blank, nine-blank-blank, nine-alone, nine-nine-blank, unopened, LetterA, LetterB, LetterC, OtherSizes, Coordinators, Identifiers, NextRounds, Masks, Places, Copies, LetterE, LetterF, LetterG, LetterH, LetterI, LetterJ, LetterK}
 use Rattle.delivery.specs.declared.delivered.Delivered.{Delivered}
-use Rattle.delivery.proofs.TestLaws.{same_test}
-use Rattle.delivery.proofs.AllRoundsLaws.{opening-unsent, ballot-unopened}
-use Rattle.delivery.proofs.PassLaws.{lets-value, lets-nothing, lets-only, Counted, every_first, pass-turn}
+use Rattle.delivery.proofs.TestLaws.{fails}
+use Rattle.delivery.proofs.AllRoundsLaws.{opening-reads, ballot-unopened}
+use Rattle.delivery.proofs.AllowanceLaws.{every_first, pass-turn}
 
 pub letter-a : LetterA
 letter-a = (
@@ -70,52 +71,21 @@ unfolding
     lacks in_set set_of nth set_nth ◌and◌ ◌or◌ neg
 copies = (refl, refl, refl, refl)
 
--- what an allowance says of every value
-only : (v w : ℕ) → (v ≡ 0 → ⊥) → lets (Only (entry_of v)) w ≡ eqb w v
-only v w z =
-    same_test
-    (lets (Only (entry_of v)) w)
-    (eqb w v)
-    (λ m.
-    let y : eqb (entry_of v) (entry_of w) ≡ true = sym (lets-only (entry_of v) w (lets-value (Only (entry_of v)) w m)) ∙ m in
-    eq-eqb w v (omega (arith, eqb-true (entry_of v) (entry_of w) y)))
-    (λ e.
-    let s : w ≡ v = eqb-true w v e in
-    lets-only (entry_of v) w (λ y. z (sym s ∙ y)) ∙ eq-eqb (entry_of v) (entry_of w) (omega arith))
-
-every : (w : ℕ) → lets Every w ≡ neg (eqb w 0)
-unfolding lets
-every w = refl
-
--- what is counted in round 1: the opening's entry is 10, so many ballots are blank, so many bear 9; and what
--- that leaves
+-- in round 2, by what is counted in round 1: the opening's entry is 10, b ballots are blank and c bear 9; and what that leaves
 abbrev Tallied : ℕ → Delivered → ℕ → ℕ → Allowance → Type 0
-Tallied n d b c a = Counted limits n (heard limits d) Every 1 10 b c a
+Tallied n d b c a =
+    (opening_entry limits n (heard limits d) 1 ≡ 10)
+    × (b ≡ count_in n (backs limits (heard limits d) 1 1))
+    × (c ≡ count_in n (backs limits (heard limits d) 1 10))
+    × (a ≡ (if leb (quorum n) (b + min c (overlap n - 1)) then Every else (if leb (quorum n) (b + c) then Only 10 else Nothing)))
 
--- in round 2, by what is counted in round 1
-second : (n : ℕ) (d : Delivered) (b c : ℕ) (a : Allowance) → Tallied n d b c a → 1 ≤ n → (w : ℕ)
+second : (n : ℕ) (d : Delivered) (b c : ℕ) (a : Allowance) → Tallied n d b c a → (n ≡ 0 → ⊥) → (w : ℕ)
     → allowed limits n (heard limits d) 2 w ≡ lets a w
+unfolding says lets neg
 second n d b c a k l w =
     ap
     (λ (p : ℕ → Bool). p w)
-    (sym
-    (pass-turn
-    limits
-    n
-    (heard limits d)
-    Every
-    a
-    1
-    10
-    b
-    c
-    (every_first limits n (heard limits d))
-    (λ z. omega arith)
-    (omega arith)
-    k.opening
-    k.blanks
-    k.backers
-    k.left))
+    (sym (pass-turn limits n (heard limits d) Every a 1 b c (every_first limits n (heard limits d)) l (omega arith) k.1 (rw k.0 k.2) (rw k.0 k.3)))
 
 tallies : (Tallied 3 nine-blank 1 1 (Only 10))
     × (Tallied 3 blank-blank 2 0 Every)
@@ -127,32 +97,38 @@ unfolding
     heard_in place_of deliver nothing_delivered identifier_of phase_of is_within coordinator ◌and◌ ◌or◌ neg says bears backs
     lets count_in plus nth set_nth
 tallies = (
-  record { opening = refl; blanks = refl; backers = refl; left = refl },
-  record { opening = refl; blanks = refl; backers = refl; left = refl },
-  record { opening = refl; blanks = refl; backers = refl; left = refl },
-  record { opening = refl; blanks = refl; backers = refl; left = refl },
-  record { opening = refl; blanks = refl; backers = refl; left = refl },
-  record { opening = refl; blanks = refl; backers = refl; left = refl },
+  (refl, refl, refl, refl),
+  (refl, refl, refl, refl),
+  (refl, refl, refl, refl),
+  (refl, refl, refl, refl),
+  (refl, refl, refl, refl),
+  (refl, refl, refl, refl),
 )
 
 -- letters e to j
 pub letter-e : LetterE
-letter-e w = second 3 nine-blank 1 1 (Only 10) tallies.0 (omega arith) w ∙ only 9 w (λ z. omega arith)
+unfolding lets ◌and◌ neg
+letter-e w = second 3 nine-blank 1 1 (Only 10) tallies.0 (omega arith) w ∙ (grind (arith, nat_tests))
 
 pub letter-f : LetterF
-letter-f w = second 3 blank-blank 2 0 Every tallies.1 (omega arith) w ∙ every w
+unfolding lets
+letter-f = second 3 blank-blank 2 0 Every tallies.1 (omega arith)
 
 pub letter-g : LetterG
-letter-g w = second 3 nine-blank-blank 2 1 Every tallies.2 (omega arith) w ∙ every w
+unfolding lets
+letter-g = second 3 nine-blank-blank 2 1 Every tallies.2 (omega arith)
 
 pub letter-h : LetterH
-letter-h w = second 3 nine-alone 0 1 Nothing tallies.3 (omega arith) w ∙ lets-nothing w
+unfolding lets
+letter-h = second 3 nine-alone 0 1 Nothing tallies.3 (omega arith)
 
 pub letter-i : LetterI
-letter-i w = second 4 nine-blank-blank 2 1 Every tallies.4 (omega arith) w ∙ every w
+unfolding lets
+letter-i = second 4 nine-blank-blank 2 1 Every tallies.4 (omega arith)
 
 pub letter-j : LetterJ
-letter-j w = second 4 nine-nine-blank 1 2 (Only 10) tallies.5 (omega arith) w ∙ only 9 w (λ z. omega arith)
+unfolding lets ◌and◌ neg
+letter-j w = second 4 nine-nine-blank 1 2 (Only 10) tallies.5 (omega arith) w ∙ (grind (arith, nat_tests))
 
 -- letter k: no opening was heard, so no ballot with a value is accepted
 pub letter-k : LetterK
@@ -161,13 +137,6 @@ unfolding
 letter-k v = (
   refl,
   λ s w z.
-      ballot-unopened
-      limits
-      4
-      (heard limits (unopened v))
-      1
-      s
-      w
-      z
-      (opening-unsent limits 4 (heard limits (unopened v)) 1 w (λ e. omega arith)),
+      let none = fails (accepts_opening limits 4 (heard limits (unopened v)) 1 w) (λ o. omega (arith, (opening-reads limits 4 (heard limits (unopened v)) 1 w o).said)) in
+      ballot-unopened limits 4 (heard limits (unopened v)) 1 s w z none,
 )

@@ -6,14 +6,12 @@ pub mod PlaceLaws
 pub mod DeliveredLaws
 pub mod OwedLaws
 pub mod EchoLaws
-pub mod ChoosingLaws
-pub mod OneRoundLaws
+pub mod ChoiceLaws
 pub mod AllRoundsLaws
+pub mod OneRoundLaws
 pub mod AgreementLaws
 pub mod GrowthLaws
 pub mod AllowanceLaws
-pub mod SpeakerLaws
-pub mod PassLaws
-pub mod ClaimLaws
+pub mod PollLaws
 pub mod ExampleLaws
 pub mod Rules

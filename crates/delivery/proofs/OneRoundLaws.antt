@@ -1,304 +1,268 @@
--- Laws of acceptance in one round, for any store and whatever `may` lets be allowed in the round: each
--- definition says the same as its reading in propositions, and one round has one opening. Assumes nothing.
-use Prim.Native.Nat.{ℕ, zero, suc, ◌≤◌, ◌<◌}
+-- What one round leaves to the next: by some speakers and the accepted ballots among theirs, and so by counts of the round's
+-- ballots. Assumes nothing.
+use Prim.Native.Nat.{ℕ, ◌+◌, ◌-◌, ◌≤◌, ◌<◌, min}
 use native.Mathlib.Omega.{arith}
-use native.Mathlib.Decide.{ℕ_discrete, dec_lt}
+use native.Mathlib.Decide.{dec_le}
 use mathlib.Core.Path.{◌≡◌, refl, sym, ◌∙◌}
-use mathlib.Core.Bool.{Bool, true, false, true≢false}
+use mathlib.Core.Bool.{Bool, true}
 use mathlib.Core.Logic.{◌⊎◌, inl, inr, ⊎_elim}
-use mathlib.Core.List.{List, Memᴰ}
-use borrow.Author.Tests.{eqb-true, eqb-false, eq-eqb, ne_eqb, leb-true, le-leb, ltb-true, lt-ltb}
-use lib.Dec.{eqb, leb, ltb}
+use mathlib.Core.List.{List}
+use lib.Dec.{eqb, leb}
 use lib.ListN.{length}
+use Rattle.std.specs.Prelude.{if◌then◌else◌}
+use Rattle.std.proofs.lemmas.Bool.Decides.{nat_tests}
 use Rattle.signer.specs.Log.{entry_of}
 use Rattle.delivery.specs.Tests.{◌and◌, ◌or◌, neg}
-use Rattle.delivery.specs.Counting.{count_of, every_of, some_choice}
+use Rattle.delivery.specs.Counting.{count_in, count_of, every_of}
 use Rattle.delivery.specs.Limits.{Limits}
 use Rattle.delivery.specs.Bus.{quorum, overlap}
 use Rattle.delivery.specs.Delivered.{Store}
-use Rattle.delivery.specs.Acceptance.{says, opening_entry, ballot_entry, bears, backs, divided, opens, counts, counts_some, allowed_after}
-use Rattle.delivery.proofs.TestLaws.{and_left, and_right, and_in, or_cases, or_left, or_right, neg-true, neg-in}
-use Rattle.delivery.proofs.ChoosingLaws.{
-  Choice,
-  some-choice,
-  choice-some,
-  every-member,
-  member-every,
-  find-member,
-}
-
--- an entry says what the value that it stands for does
-pub says-value : (x : ℕ) (p : ℕ → Bool) → says x p ≡ true → (w : ℕ) × (x ≡ entry_of w) × (p w ≡ true)
-unfolding says
-says-value zero p h = absurd (true≢false (sym h))
-says-value (suc w) p h = (w, refl, h)
-
-pub says-entry : (w : ℕ) (p : ℕ → Bool) → says (entry_of w) p ≡ p w
-unfolding says
-says-entry w p = refl
-
-pub value-says : (x w : ℕ) (p : ℕ → Bool) → x ≡ entry_of w → p w ≡ true → says x p ≡ true
-unfolding says
-value-says x w p e h = rw e h
-
--- an entry of nothing or of the blank says nothing of values
-pub says-low : (x : ℕ) (p : ℕ → Bool) → x < 2 → p 0 ≡ false → says x p ≡ false
-unfolding says
-says-low zero p l e = refl
-says-low (suc zero) p l e = e
-says-low (suc (suc w)) p l e = absurd (omega arith)
-
-pub says_none : (x : ℕ) (p : ℕ → Bool) → ((w : ℕ) → p w ≡ false) → says x p ≡ false
-unfolding says
-says_none zero p f = refl
-says_none (suc w) p f = f w
+use Rattle.delivery.specs.Acceptance.{says, opening_entry, bears, backs, divided, opens, counts, counts_some, allowed_after, allowed, accepts_opening, accepts_ballot, accepts_some}
+use Rattle.delivery.proofs.TestLaws.{same_test}
+use Rattle.delivery.proofs.CountLaws.{count-le, count-cong, count-mono, count-or, find, every-reads, reads-every, overlap-pos}
+use Rattle.delivery.proofs.ChoiceLaws.{picked, picked-some, some-picked, length-picked, count-picked, every-picked, first, count-first, count-apart}
+use Rattle.delivery.proofs.AllRoundsLaws.{allowed-next, allowed-blank, accepted-reads, reads-accepted}
 
 -- "not 0" as a test
 pub some-value : (w : ℕ) → neg (eqb w 0) ≡ true → w ≡ 0 → ⊥
-some-value w h = eqb-false w 0 (neg-true (eqb w 0) h)
+unfolding neg
+some-value w h = grind (arith, nat_tests)
 
 pub value-some : (w : ℕ) → (w ≡ 0 → ⊥) → neg (eqb w 0) ≡ true
-value-some w h = neg-in (eqb w 0) (ne_eqb w 0 h)
+unfolding neg
+value-some w h = grind (arith, nat_tests)
 
--- a ballot bears w
-module _ (L : Limits) (h : Store) (r : ℕ) where
-  pub bears-reads : (w s : ℕ) → bears L h r w s ≡ true → ballot_entry L h r s ≡ entry_of w
-  unfolding bears
-  bears-reads w s b = eqb-true (ballot_entry L h r s) (entry_of w) b
+-- a ballot backs the entry of w exactly if it bears w
+pub backs-value : (L : Limits) (h : Store) (r w s : ℕ) → backs L h r (entry_of w) s ≡ bears L h r w s
+unfolding backs says
+backs-value L h r w s = refl
 
-  pub reads-bears : (w s : ℕ) → ballot_entry L h r s ≡ entry_of w → bears L h r w s ≡ true
-  unfolding bears
-  reads-bears w s e = eq-eqb (ballot_entry L h r s) (entry_of w) e
+-- w is allowed next, by the entry x of the opening that counts, b blank ballots and c for its value; m: it is allowed in this round
+unfoldable pub by-counts : ℕ → ℕ → ℕ → ℕ → ℕ → Bool → Bool
+by-counts n x b c w m =
+    neg (eqb w 0)
+    and ((eqb x (entry_of w) and leb (quorum n) (b + c) and leb (overlap n) c)
+    or (m and leb (quorum n) (b + min c (overlap n - 1))))
 
-  -- it bears what an entry stands for
-  pub backs-nothing : (s : ℕ) → backs L h r 0 s ≡ false
-  unfolding backs says
-  backs-nothing s = refl
-
-  pub backs-value : (w s : ℕ) → backs L h r (entry_of w) s ≡ bears L h r w s
-  unfolding backs says
-  backs-value w s = refl
-
-  pub backs-entry : (x s : ℕ) → (x ≡ 0 → ⊥) → backs L h r x s ≡ eqb (ballot_entry L h r s) x
-  unfolding backs says bears
-  backs-entry zero s z = absurd (z refl)
-  backs-entry (suc w) s z = refl
-
--- divided ballots
 module _ (L : Limits) (n : ℕ) (h : Store) (r : ℕ) where
-  -- every value other than the blank stands fewer than e times in these ballots
-  abbrev pub Divided : List ℕ → Type 0
-  Divided ss = (v : ℕ) → (v ≡ 0 → ⊥) → count_of (bears L h r v) ss < overlap n
+  -- of some speakers, a ballot is accepted from each, whatever it bears
+  abbrev Heard : (ℕ → Bool) → Type 0
+  Heard p = (s : ℕ) → 1 ≤ s → s ≤ n → p s ≡ true → (v : ℕ) × (accepts_ballot L n h r s v ≡ true)
 
-  pub divided-reads : (ss : List ℕ) → 1 ≤ overlap n → divided L n h r ss ≡ true → Divided ss
-  unfolding divided
-  divided-reads ss e d v z = go (dec_lt (count_of (bears L h r v) ss) (overlap n))
-    where
-      test : ℕ → Bool
-      test w = eqb w 0 or ltb (count_of (bears L h r w) ss) (overlap n)
+  -- how many of them have an accepted ballot with v
+  abbrev pub among : (ℕ → Bool) → ℕ → ℕ
+  among p v = count_in n (λ (s : ℕ). p s and accepts_ballot L n h r s v)
 
-      go : Dec (count_of (bears L h r v) ss < overlap n) → count_of (bears L h r v) ss < overlap n
-      go (yes l) = l
-      go (no l) =
-          let x = find-member (bears L h r v) ss (omega arith) in
-          let y = says-value (ballot_entry L h r x.0) test (every-member (λ (s : ℕ). says (ballot_entry L h r s) test) ss d x.0 x.1) in
-          let same : y.0 ≡ v = omega (arith, y.1, bears-reads L h r v x.0 x.2) in
-          ⊎_elim
-          (λ (zero' : eqb y.0 0 ≡ true). absurd (z (sym same ∙ eqb-true y.0 0 zero')))
-          (λ (few : ltb (count_of (bears L h r y.0) ss) (overlap n) ≡ true). rw same at (ltb-true (count_of (bears L h r y.0) ss) (overlap n) few))
-          (or_cases (eqb y.0 0) (ltb (count_of (bears L h r y.0) ss) (overlap n)) y.2)
+  -- fewer than k for every value other than the blank
+  abbrev Below : (ℕ → Bool) → ℕ → Type 0
+  Below p k = (v : ℕ) → (v ≡ 0 → ⊥) → among p v < k
 
-  pub reads-divided : (ss : List ℕ) → ((s : ℕ) → Memᴰ s ss → (w : ℕ) × (ballot_entry L h r s ≡ entry_of w)) → Divided ss → divided L n h r ss ≡ true
-  unfolding divided
-  reads-divided ss all d =
-      member-every
-      (λ (s : ℕ). says (ballot_entry L h r s) test)
-      ss
-      (λ s m. let x = all s m in value-says (ballot_entry L h r s) x.0 test x.1 (passes x.0 (ℕ_discrete x.0 0)))
-    where
-      test : ℕ → Bool
-      test w = eqb w 0 or ltb (count_of (bears L h r w) ss) (overlap n)
+  -- they leave w to the next round: a ballot is accepted from each of them, and e or more of these bear w, or every value other
+  -- than the blank stands fewer than e times among them while w is allowed in this round
+  pub record Leaves (w : ℕ) (p : ℕ → Bool) : Type 0 where
+    pub accepted : Heard p
+    pub reason : (overlap n ≤ among p w) ⊎ (Below p (overlap n) × (allowed L n h r w ≡ true))
 
-      passes : (w : ℕ) → Dec (w ≡ 0) → test w ≡ true
-      passes w (yes z) = or_left (eqb w 0) _ (eq-eqb w 0 z)
-      passes w (no z) = or_right (eqb w 0) (ltb (count_of (bears L h r w) ss) (overlap n)) (lt-ltb (count_of (bears L h r w) ss) (overlap n) (d w z))
+  count-among : (p : ℕ → Bool) → Heard p → (v : ℕ) → count_of (bears L h r v) (picked n p) ≡ among p v
+  unfolding accepts_ballot counts bears ◌and◌
+  count-among p c v =
+      count-picked n p (bears L h r v) ∙ count-cong n _ _ (λ s l u. grind (arith, nat_tests, c s l u))
 
-module _ (L : Limits) (n : ℕ) (h : Store) (may : ℕ → Bool) (r : ℕ) where
-  -- an opening counts: read and written
-  pub record Opens (w : ℕ) : Type 0 where
-    pub said : opening_entry L n h r ≡ entry_of w
-    pub value : w ≡ 0 → ⊥
-    pub permitted : may w ≡ true
-
-  pub opens-reads : (w : ℕ) → opens L n h may r w ≡ true → Opens w
-  unfolding opens
-  opens-reads w o =
-      let rest : (neg (eqb w 0) and may w) ≡ true = and_right (eqb (opening_entry L n h r) (entry_of w)) _ o in
-      record {
-        said = eqb-true (opening_entry L n h r) (entry_of w) (and_left (eqb (opening_entry L n h r) (entry_of w)) _ o);
-        value = some-value w (and_left (neg (eqb w 0)) (may w) rest);
-        permitted = and_right (neg (eqb w 0)) (may w) rest;
-      }
-
-  pub reads-opens : (w : ℕ) → Opens w → opens L n h may r w ≡ true
-  unfolding opens
-  reads-opens w o =
-      and_in
-      (eqb (opening_entry L n h r) (entry_of w))
-      (neg (eqb w 0) and may w)
-      (eq-eqb (opening_entry L n h r) (entry_of w) o.said)
-      (and_in (neg (eqb w 0)) (may w) (value-some w o.value) o.permitted)
-
-  -- one round has one opening
-  pub one-opening : (v w : ℕ) → opens L n h may r v ≡ true → opens L n h may r w ≡ true → v ≡ w
-  one-opening v w o p = omega (arith, (opens-reads v o).said, (opens-reads w p).said)
-
-  -- a ballot counts
-  pub record Counts (w s : ℕ) : Type 0 where
-    pub said : ballot_entry L h r s ≡ entry_of w
-    pub backed : (w ≡ 0) ⊎ (Opens w)
-
-  pub counts-reads : (w s : ℕ) → counts L n h may r w s ≡ true → Counts w s
-  unfolding counts
-  counts-reads w s b =
-      record {
-        said = bears-reads L h r w s (and_left (bears L h r w s) _ b);
-        backed =
-            ⊎_elim
-            (λ (z : eqb w 0 ≡ true). inl (eqb-true w 0 z))
-            (λ (o : opens L n h may r w ≡ true). inr (opens-reads w o))
-            (or_cases (eqb w 0) (opens L n h may r w) (and_right (bears L h r w s) _ b));
-      }
-
-  pub reads-counts : (w s : ℕ) → Counts w s → counts L n h may r w s ≡ true
-  unfolding counts
-  reads-counts w s b =
-      and_in
-      (bears L h r w s)
-      (eqb w 0 or opens L n h may r w)
-      (reads-bears L h r w s b.said)
-      (⊎_elim
-      (λ (z : w ≡ 0). or_left (eqb w 0) (opens L n h may r w) (eq-eqb w 0 z))
-      (λ (o : Opens w). or_right (eqb w 0) (opens L n h may r w) (reads-opens w o))
-      b.backed)
-
-  -- a ballot counts, whatever it bears
-  pub some-reads : (s : ℕ) → counts_some L n h may r s ≡ true → (w : ℕ) × Counts w s
-  unfolding counts_some
-  some-reads s b =
-      let x = says-value (ballot_entry L h r s) (λ (w : ℕ). counts L n h may r w s) b in
-      (x.0, counts-reads x.0 s x.2)
-
-  pub reads-some : (w s : ℕ) → Counts w s → counts_some L n h may r s ≡ true
-  unfolding counts_some
-  reads-some w s b = value-says (ballot_entry L h r s) w (λ (v : ℕ). counts L n h may r v s) b.said (reads-counts w s b)
-
-  -- a ballot that counts, and bears w other than the blank, shows that w was opened
-  pub ballot-opened : (w s : ℕ) → (w ≡ 0 → ⊥) → Counts w s → Opens w
-  ballot-opened w s z b = ⊎_elim (λ (e : w ≡ 0). absurd (z e)) (λ (o : Opens w). o) b.backed
-
-  pub some-opened : (w s : ℕ) → (w ≡ 0 → ⊥) → counts_some L n h may r s ≡ true → bears L h r w s ≡ true → Opens w
-  some-opened w s z b t =
-      let x = some-reads s b in
-      let e : x.0 ≡ w = omega (arith, x.1.said, bears-reads L h r w s t) in
-      ballot-opened w s z (rw e at x.1)
-
-  -- the speakers ss carry w into the next round: different boards of 1 to n whose ballots count, of which
-  -- e or more bear w, or which are divided while w is allowed in this round
-  pub record Carries (w : ℕ) (ss : List ℕ) : Type 0 where
-    pub choice : Choice n ss
-    pub counted : (s : ℕ) → Memᴰ s ss → (v : ℕ) × Counts v s
-    pub reason : (overlap n ≤ count_of (bears L h r w) ss) ⊎ (Divided L n h r ss × (may w ≡ true))
-
-  carried : ℕ → List ℕ → Bool
-  carried w ss =
+  -- the test of a choice that allows w next
+  carries : ℕ → List ℕ → Bool
+  carries w ss =
       eqb (length ss) (quorum n)
-      and every_of (counts_some L n h may r) ss
-      and (leb (overlap n) (count_of (bears L h r w) ss) or (divided L n h r ss and may w))
+      and every_of (accepts_some L n h r) ss
+      and (leb (overlap n) (count_of (bears L h r w) ss) or (divided L n h r ss and allowed L n h r w))
 
-  carried-reads : (w : ℕ) (ss : List ℕ) → Choice n ss → carried w ss ≡ true → (length ss ≡ quorum n) × Carries w ss
-  unfolding carried
-  carried-reads w ss c t = (
-    eqb-true (length ss) (quorum n) (and_left (eqb (length ss) (quorum n)) _ t),
-    record {
-      choice = c;
-      counted = λ s m. some-reads s (every-member (counts_some L n h may r) ss (and_left (every_of (counts_some L n h may r) ss) _ rest) s m);
-      reason =
-          ⊎_elim
-          (λ (l : leb (overlap n) (count_of (bears L h r w) ss) ≡ true). inl (leb-true (overlap n) _ l))
-          (λ (d : (divided L n h r ss and may w) ≡ true). second d (dec_lt 0 (overlap n)))
-          (or_cases (leb (overlap n) (count_of (bears L h r w) ss)) _ (and_right (every_of (counts_some L n h may r) ss) _ rest));
-    },
-  )
+  divided-reads : (p : ℕ → Bool) → Heard p → divided L n h r (picked n p) ≡ true → 1 ≤ overlap n → Below p (overlap n)
+  unfolding divided says accepts_ballot counts bears ◌and◌ ◌or◌ neg
+  divided-reads p c d e v z = go (dec_le 1 (among p v))
     where
-      rest : (every_of (counts_some L n h may r) ss and (leb (overlap n) (count_of (bears L h r w) ss) or (divided L n h r ss and may w))) ≡ true
-      rest = and_right (eqb (length ss) (quorum n)) _ t
+      go : Dec (1 ≤ among p v) → among p v < overlap n
+      go (no l) = omega arith
+      go (yes l) =
+          let s = find n _ l in
+          grind (arith, nat_tests, s.3, count-among p c v, every-reads n _ (sym (every-picked n p _) ∙ d) s.0 s.1 s.2)
 
-      second : (divided L n h r ss and may w) ≡ true → Dec (0 < overlap n)
-          → (overlap n ≤ count_of (bears L h r w) ss) ⊎ (Divided L n h r ss × (may w ≡ true))
-      second d (yes e) =
-          inr (divided-reads L n h r ss e (and_left (divided L n h r ss) (may w) d), and_right (divided L n h r ss) (may w) d)
-      second d (no e) = inl (omega arith)
+  reads-divided : (p : ℕ → Bool) → Heard p → Below p (overlap n) → divided L n h r (picked n p) ≡ true
+  unfolding divided says accepts_ballot counts bears ◌and◌ ◌or◌ neg
+  reads-divided p c d =
+      rw every-picked (reads-every n _ (λ s l u. grind (arith, nat_tests, c s l u, count-among p c, d)))
 
-  -- what is allowed in the next round: read and written
-  pub record AllowedNext (w : ℕ) : Type 0 where
-    pub value : w ≡ 0 → ⊥
-    pub speakers : List ℕ
-    pub size : length speakers ≡ quorum n
-    pub carries : Carries w speakers
+  carries-reads : (w : ℕ) (p : ℕ → Bool) → carries w (picked n p) ≡ true → (count_in n p ≡ quorum n) × Leaves w p
+  unfolding carries ◌and◌ ◌or◌ neg
+  carries-reads w p t =
+      let e : every_of (accepts_some L n h r) (picked n p) ≡ true = grind arith in
+      let c : Heard p = λ s l u t. accepted-reads L n h r s (grind (arith, every-reads n _ (sym (every-picked n p _) ∙ e) s l u)) in
+      let q : count_in n p ≡ quorum n = grind (arith, nat_tests, length-picked) in
+      (q, record { accepted = c; reason = go c (dec_le (overlap n) (among p w)) })
+    where
+      go : Heard p → Dec (overlap n ≤ among p w) → (overlap n ≤ among p w) ⊎ (Below p (overlap n) × (allowed L n h r w ≡ true))
+      go c (yes l) = inl l
+      go c (no l) =
+          let d : divided L n h r (picked n p) ≡ true = grind (arith, nat_tests, count-among p c w) in
+          inr (divided-reads p c d (omega arith), grind (arith, nat_tests, count-among p c w))
 
-  pub after-reads : (w : ℕ) → allowed_after L n h may r w ≡ true → AllowedNext w
-  unfolding allowed_after carried
-  after-reads w a =
-      let x = some-choice n (carried w) (and_right (neg (eqb w 0)) (some_choice n (carried w)) a) in
-      let y = carried-reads w x.0 x.1 x.2 in
-      record {
-        value = some-value w (and_left (neg (eqb w 0)) (some_choice n (carried w)) a);
-        speakers = x.0;
-        size = y.0;
-        carries = y.1;
-      }
+  reads-carries : (w : ℕ) (p : ℕ → Bool) → count_in n p ≡ quorum n → Leaves w p → carries w (picked n p) ≡ true
+  unfolding carries ◌and◌ ◌or◌ neg
+  reads-carries w p q l =
+      let heard : (s : ℕ) → 1 ≤ s → s ≤ n → p s ≡ true → accepts_some L n h r s ≡ true =
+      λ s a b t. let x = l.accepted s a b t in reads-accepted L n h r s x.0 x.1 in
+      let e : every_of (accepts_some L n h r) (picked n p) ≡ true =
+      rw every-picked (reads-every n _ (λ s a b. grind (arith, heard s a b))) in
+      let same = count-among p l.accepted w in
+      ⊎_elim
+      (λ (m : overlap n ≤ among p w). grind (arith, nat_tests, length-picked))
+      (λ d. grind (arith, nat_tests, length-picked, reads-divided p l.accepted d.0, d.1))
+      l.reason
 
-  reads-carried : (w : ℕ) (ss : List ℕ) → length ss ≡ quorum n → Carries w ss → carried w ss ≡ true
-  unfolding carried
-  reads-carried w ss l c =
-      and_in
-      (eqb (length ss) (quorum n))
-      _
-      (eq-eqb (length ss) (quorum n) l)
-      (and_in
-      (every_of (counts_some L n h may r) ss)
-      _
-      (member-every (counts_some L n h may r) ss (λ s m. let x = c.counted s m in reads-some x.0 s x.1))
-      (⊎_elim
-      (λ (e : overlap n ≤ count_of (bears L h r w) ss).
-      or_left
-      (leb (overlap n) (count_of (bears L h r w) ss))
-      (divided L n h r ss and may w)
-      (le-leb (overlap n) _ e))
-      (λ (d : Divided L n h r ss × (may w ≡ true)).
-      or_right
-      (leb (overlap n) (count_of (bears L h r w) ss))
-      (divided L n h r ss and may w)
-      (and_in
-      (divided L n h r ss)
-      (may w)
-      (reads-divided L n h r ss (λ s m. let x = c.counted s m in (x.0, x.1.said)) d.0)
-      d.1))
-      c.reason))
+  -- so what is allowed next is what some q speakers leave
+  module _ (w : ℕ) (low : 1 ≤ r) where
+    pub later-reads : allowed L n h (r + 1) w ≡ true → (w ≡ 0 → ⊥) × ((p : ℕ → Bool) × (count_in n p ≡ quorum n) × Leaves w p)
+    unfolding allowed_after carries accepts_some ◌and◌ neg
+    later-reads a =
+        let a' = rw (allowed-next L n h r w low) at a in
+        let x = some-picked n (carries w) (grind (arith, a')) in
+        let y = carries-reads w x.0 x.1 in
+        (λ z. grind (arith, a'), (x.0, y.0, y.1))
 
-  pub reads-after : (w : ℕ) → AllowedNext w → allowed_after L n h may r w ≡ true
-  unfolding allowed_after carried
-  reads-after w a =
-      and_in
-      (neg (eqb w 0))
-      (some_choice n (carried w))
-      (value-some w a.value)
-      (choice-some (carried w) a.carries.choice (reads-carried w a.speakers a.size a.carries))
+    pub reads-later : (w ≡ 0 → ⊥) → (p : ℕ → Bool) → count_in n p ≡ quorum n → Leaves w p → allowed L n h (r + 1) w ≡ true
+    unfolding allowed_after carries accepts_some ◌and◌ neg
+    reads-later z p q l =
+        let x = picked-some n (carries w) p (reads-carries w p q l) in
+        rw (allowed-next L n h r w low) (grind (arith, nat_tests))
 
-  -- e or more of the chosen ballots with w show that w was opened in this round
-  pub carried-opened : (w : ℕ) (ss : List ℕ) → (w ≡ 0 → ⊥) → Carries w ss → 1 ≤ count_of (bears L h r w) ss → Opens w
-  carried-opened w ss z c l =
-      let x = find-member (bears L h r w) ss l in
-      let y = c.counted x.0 x.1 in
-      some-opened w x.0 z (reads-some y.0 x.0 y.1) x.2
+  -- the entry of the opening that counts, or 0 where none does; how many ballots are blank, and how many bear its value
+  unfoldable pub entry : ℕ
+  entry = if says (opening_entry L n h r) (allowed L n h r) then opening_entry L n h r else 0
+
+  abbrev pub blank : ℕ
+  blank = count_in n (bears L h r 0)
+
+  abbrev pub backing : ℕ
+  backing = count_in n (backs L h r entry)
+
+  -- and of some speakers' ballots
+  abbrev backing-among : (ℕ → Bool) → ℕ
+  backing-among p = count_in n (λ (s : ℕ). p s and backs L h r entry s)
+
+  pub opened-entry : (w : ℕ) → accepts_opening L n h r w ≡ eqb entry (entry_of w)
+  unfolding entry says accepts_opening opens ◌and◌ neg
+  opened-entry w = grind (arith, nat_tests, allowed-blank L n h r)
+
+  -- the accepted ballots are the blank ones and those for the opening's value, which are apart
+  pub some-either : (s : ℕ) → accepts_some L n h r s ≡ (bears L h r 0 s or backs L h r entry s)
+  unfolding accepts_some accepts_opening counts_some counts says backs bears ◌and◌ ◌or◌
+  some-either s = grind (arith, nat_tests, opened-entry)
+
+  entry-some : entry ≡ 1 → ⊥
+  unfolding entry says
+  entry-some e = grind (arith, allowed-blank L n h r)
+
+  apart : (s : ℕ) → bears L h r 0 s ≡ true → backs L h r entry s ≡ true → ⊥
+  unfolding says backs bears
+  apart s b c = grind (arith, nat_tests, entry-some)
+
+  pub blank-backing : blank + backing ≤ n
+  blank-backing =
+      omega (arith, count-apart n (bears L h r 0) (backs L h r entry) apart, count-le n (λ (s : ℕ). bears L h r 0 s or backs L h r entry s))
+
+  value-backs : (w s : ℕ) → (w ≡ 0 → ⊥) → accepts_ballot L n h r s w ≡ (eqb entry (entry_of w) and backs L h r entry s)
+  unfolding accepts_ballot accepts_opening counts says backs bears ◌and◌ ◌or◌
+  value-backs w s z = grind (arith, nat_tests, opened-entry)
+
+  pub value-among : (p : ℕ → Bool) (w : ℕ) → (w ≡ 0 → ⊥) → accepts_opening L n h r w ≡ true → among p w ≡ backing-among p
+  unfolding ◌and◌
+  value-among p w z o = count-cong n _ _ (λ s l u. grind (arith, value-backs w s, opened-entry w))
+
+  -- where each value stands fewer than k times among them, so does the opening's
+  pub backing-few : (p : ℕ → Bool) (k : ℕ) → 1 ≤ k → Below p k → backing-among p < k
+  unfolding backs says ◌and◌
+  backing-few p k l f = go (dec_le 1 (backing-among p))
+    where
+      go : Dec (1 ≤ backing-among p) → backing-among p < k
+      go (no m) = omega arith
+      go (yes m) =
+          let s = find n (λ (s : ℕ). p s and backs L h r entry s) m in
+          let v : entry - 1 ≡ 0 → ⊥ = λ e. grind (arith, s.3, entry-some) in
+          let o : accepts_opening L n h r (entry - 1) ≡ true = grind (arith, nat_tests, s.3, opened-entry (entry - 1)) in
+          omega (arith, f (entry - 1) v, value-among p (entry - 1) v o)
+
+  pub leaves-counts : (w : ℕ) (p : ℕ → Bool) → 1 ≤ n → (w ≡ 0 → ⊥) → quorum n ≤ count_in n p → Leaves w p
+      → by-counts n entry blank backing w (allowed L n h r w) ≡ true
+  unfolding by-counts accepts_ballot accepts_opening counts ◌and◌ ◌or◌ neg
+  leaves-counts w p some z q l =
+      ⊎_elim
+      (λ (m : overlap n ≤ among p w).
+      let s = find n (λ (s : ℕ). p s and accepts_ballot L n h r s w) (omega (arith, m, overlap-pos n some)) in
+      let o : accepts_opening L n h r w ≡ true = grind (arith, nat_tests, s.3) in
+      grind (arith, nat_tests, size, most, value-among p w z o, opened-entry w))
+      (λ d. grind (arith, nat_tests, d.1, size, most, backing-few p (overlap n) (overlap-pos n some) d.0))
+      l.reason
+    where
+      either : (s : ℕ) → 1 ≤ s → s ≤ n → p s ≡ true → (bears L h r 0 s or (p s and backs L h r entry s)) ≡ true
+      either s a b t = let x = l.accepted s a b t in grind (arith, reads-accepted L n h r s x.0 x.1, some-either s)
+
+      size : quorum n ≤ blank + backing-among p
+      size = omega (arith, count-mono n p _ either, count-or n (bears L h r 0) (λ (s : ℕ). p s and backs L h r entry s))
+
+      most : backing-among p ≤ backing
+      most = count-mono n _ _ (λ s a b t. grind arith)
+
+  module _ (w : ℕ) (low : 1 ≤ r) where
+    -- and these counts give a choice of exactly q: i blank ballots and j for the opening's value
+    chosen : (i j : ℕ) → (w ≡ 0 → ⊥) → i ≤ blank → j ≤ backing → i + j ≡ quorum n
+        → ((entry ≡ entry_of w) × (overlap n ≤ j)) ⊎ ((allowed L n h r w ≡ true) × (j < overlap n)) → allowed L n h (r + 1) w ≡ true
+    unfolding first ◌and◌ ◌or◌
+    chosen i j z a b e t =
+        reads-later w low z p size (record { accepted = λ s l u t. accepted-reads L n h r s (grind (arith, some-either s)); reason = reason })
+      where
+        p : ℕ → Bool
+        p s = first i (bears L h r 0) s or first j (backs L h r entry) s
+
+        size : count_in n p ≡ quorum n
+        size =
+            omega (
+              arith,
+              count-apart n (first i (bears L h r 0)) (first j (backs L h r entry)) (λ s b c. grind (arith, apart s)),
+              count-first n i (bears L h r 0),
+              count-first n j (backs L h r entry),
+            )
+
+        back : backing-among p ≡ j
+        back = count-cong n _ (first j (backs L h r entry)) (λ s l u. grind (arith, apart s)) ∙ (omega (arith, count-first n j (backs L h r entry)))
+
+        few : (v : ℕ) → (v ≡ 0 → ⊥) → among p v ≤ j
+        few v y =
+            let l : among p v ≤ backing-among p = count-mono n _ _ (λ s a b t. grind (arith, value-backs v s y)) in
+            omega (arith, back)
+
+        reason : (overlap n ≤ among p w) ⊎ (Below p (overlap n) × (allowed L n h r w ≡ true))
+        reason =
+            ⊎_elim
+            (λ t. inl (omega (arith, back, t.1, value-among p w z (grind (arith, nat_tests, t.0, opened-entry w)))))
+            (λ t. inr (λ v y. omega (arith, t.1, few v y), t.0))
+            t
+
+    pub counts-later : 1 ≤ n → by-counts n entry blank backing w (allowed L n h r w) ≡ true → allowed L n h (r + 1) w ≡ true
+    unfolding by-counts ◌and◌ ◌or◌ neg
+    counts-later some t =
+        let z : w ≡ 0 → ⊥ = λ z. grind arith in
+        let s : ((entry ≡ entry_of w) × (quorum n ≤ blank + backing) × (overlap n ≤ backing))
+        ⊎ ((allowed L n h r w ≡ true) × (quorum n ≤ blank + min backing (overlap n - 1))) = grind (arith, nat_tests) in
+        ⊎_elim
+        (λ t. let j = min backing (quorum n) in chosen (quorum n - j) j z (omega arith) (omega arith) (omega arith) (inl (t.0, omega arith)))
+        (λ t.
+        let j = min backing (overlap n - 1) in
+        chosen (quorum n - j) j z (omega arith) (omega arith) (omega arith) (inr (t.0, omega (arith, overlap-pos n some))))
+        s
+
+    -- so what is allowed next goes by them
+    pub later-counts : 1 ≤ n → allowed L n h (r + 1) w ≡ by-counts n entry blank backing w (allowed L n h r w)
+    later-counts some =
+        same_test
+        _
+        _
+        (λ a. let y = later-reads w low a in leaves-counts w y.1.0 some y.0 (omega (arith, y.1.1)) y.1.2)
+        (counts-later some)

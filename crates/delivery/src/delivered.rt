@@ -38,7 +38,7 @@ impl Delivered {
 
     // Where the entry of what a speaker said under an identifier stands; nowhere where no board can say it.
     // Speaker and identifier stay two arguments, here and below: a pair of them is taken apart at once, so no plainer.
-    #[tactic(auto, using(crate::proofs::Rules::rules_delivered_delivered_index))]
+    #[tactic(auto, using(crate::proofs::DeliveredLaws::indexes))]
     pub fn index(speaker: u8, id: Identifier) -> Option<usize>
         ensures { result ≡ index_of limits speaker id.0 }
     {
@@ -49,7 +49,7 @@ impl Delivered {
     }
 
     // What a speaker said under an identifier, as a log's entry.
-    #[tactic(auto, using(crate::proofs::Rules::rules_delivered_delivered_entry))]
+    #[tactic(auto, using(crate::proofs::DeliveredLaws::entries), unfolding(crate::specs::Delivered::heard_in))]
     pub fn entry(&self, speaker: u8, id: Identifier) -> u32
         ensures { result ≡ heard limits self.now speaker id.0 }
     {
@@ -61,7 +61,7 @@ impl Delivered {
 
     // Takes in one statement more. What stands there already is kept, and a statement that no board
     // can make is left out.
-    #[tactic(auto, using(crate::proofs::Rules::rules_delivered_delivered_deliver))]
+    #[tactic(auto, using(crate::proofs::DeliveredLaws::entries), unfolding(crate::specs::Delivered::deliver, crate::specs::Delivered::heard_in))]
     pub fn deliver(&mut self, speaker: u8, id: Identifier, value: u16)
         ensures { self.new ≡ deliver limits self.old speaker id.0 value }
     {

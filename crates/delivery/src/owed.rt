@@ -67,7 +67,7 @@ impl Owed {
     }
 
     // The boards to which a copy of a speaker's statement is owed; speaker and identifier stay apart, as in `Delivered`.
-    #[tactic(auto, using(crate::proofs::Rules::rules_owed_owed_receivers), unfolding(crate::specs::Owed::receivers, crate::specs::Owed::copies_of))]
+    #[tactic(auto, using(crate::proofs::OwedLaws::reading), unfolding(crate::specs::Owed::receivers, crate::specs::Owed::copies_of))]
     pub fn receivers(&self, speaker: u8, id: Identifier) -> BoardSet
         ensures { result ≡ receivers limits self.now speaker id.0 }
     {
@@ -78,7 +78,7 @@ impl Owed {
     }
 
     // Has the boards in `set` owed a copy of it instead.
-    #[tactic(auto, using(crate::proofs::Rules::rules_owed_owed_set_receivers))]
+    #[tactic(auto, using(crate::proofs::OwedLaws::writing), unfolding(crate::specs::Owed::with_receivers, crate::specs::Owed::with_copies, crate::specs::Owed::copies_of))]
     fn set_receivers(&mut self, speaker: u8, id: Identifier, set: BoardSet)
         ensures { self.new ≡ with_receivers limits self.old speaker id.0 set }
     {
@@ -91,7 +91,7 @@ impl Owed {
     // The boards to which a copy of it is owed, and the sound ones other than the speaker that do not have it:
     // `sound` are the sound boards, `have` those that have the statement. The two stay apart, here and below: a pair of
     // two sets of one type would hide which is which, so no plainer.
-    #[tactic(auto, using(crate::proofs::Rules::rules_owed_owed_with_lacking))]
+    #[tactic(auto, using(crate::proofs::OwedLaws::sets))]
     fn with_lacking(&self, speaker: u8, id: Identifier, sound: BoardSet, have: BoardSet) -> BoardSet
         ensures { result ≡ set_of bits (λ (k : ℕ). in_set (receivers limits self.now speaker id.0) k or lacks sound have speaker k) }
     {
@@ -110,7 +110,7 @@ impl Owed {
     }
 
     // Records that sound board `board` delivered a statement of `speaker`.
-    #[tactic(auto, using(crate::proofs::Rules::rules_owed_owed_record_delivery), unfolding(crate::specs::Owed::after_delivery))]
+    #[tactic(auto, using(crate::proofs::OwedLaws::sets), unfolding(crate::specs::Owed::after_delivery))]
     pub fn record_delivery(
         &mut self,
         board: u8,

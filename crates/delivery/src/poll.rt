@@ -48,7 +48,7 @@ impl<'a> Poll<'a> {
     // The boards of 1 to n whose ballot of the round has this entry; no ballot has entry 0. The bench collects sets by
     // such loops too: one public call for all would take the test as a closure, and so ask something of its callers,
     // which a rule of the project forbids.
-    #[tactic(auto, using(crate::proofs::Rules::rules_poll_poll_bearing), unfolding(crate::specs::Sets::set_of))]
+    #[tactic(auto, using(crate::proofs::PollLaws::bearing), unfolding(crate::specs::Sets::set_of, crate::specs::Acceptance::backs, crate::specs::Acceptance::says))]
     fn bearing(&self, entry: u32) -> BoardSet
         ensures { result ≡ set_of self.now.n (backs limits (heard limits self.now.delivered) self.now.round entry) }
     {
@@ -67,7 +67,7 @@ impl<'a> Poll<'a> {
     }
 
     // How many boards of 1 to n have a ballot of the round with this entry, accepted or not.
-    #[tactic(auto, using(crate::proofs::Rules::rules_poll_poll_count_bearing))]
+    #[tactic(auto, using(crate::proofs::SetLaws::count_set))]
     pub fn count_bearing(&self, entry: u32) -> u8
         ensures { result ≡ count_in self.now.n (backs limits (heard limits self.now.delivered) self.now.round entry) }
     {
@@ -84,7 +84,7 @@ impl<'a> Poll<'a> {
     }
 
     // What is allowed in the round: one pass over the rounds before it.
-    #[tactic(auto, using(crate::proofs::Rules::rules_poll_poll_allowance))]
+    #[tactic(auto, using(crate::proofs::AllowanceLaws::allowance))]
     fn allowance(&self) -> Allowance
         ensures { lets result ≡ allowed limits self.now.n (heard limits self.now.delivered) self.now.round }
     {
@@ -113,7 +113,7 @@ impl<'a> Poll<'a> {
     }
 
     // Whether an entry is that of a value that is allowed in the round.
-    #[tactic(auto, using(crate::proofs::Rules::rules_poll_poll_allows))]
+    #[tactic(auto, using(crate::proofs::AllRoundsLaws::allows))]
     fn allows(&self, entry: u32) -> bool
         ensures { result ≡ says entry (allowed limits self.now.n (heard limits self.now.delivered) self.now.round) }
     {
@@ -133,7 +133,7 @@ impl<'a> Poll<'a> {
     }
 
     // Whether the opening of the round with a value is accepted.
-    #[tactic(auto, using(crate::proofs::Rules::rules_poll_poll_accepts_opening))]
+    #[tactic(auto, using(crate::proofs::AllRoundsLaws::accepts), unfolding(crate::specs::Acceptance::accepts_opening, crate::specs::Acceptance::opens, crate::specs::Tests::neg))]
     pub fn accepts_opening(&self, value: u16) -> bool
         ensures { result ≡ accepts_opening limits self.now.n (heard limits self.now.delivered) self.now.round value }
     {
@@ -141,7 +141,7 @@ impl<'a> Poll<'a> {
     }
 
     // Whether a speaker's ballot of the round with a value is accepted.
-    #[tactic(auto, using(crate::proofs::Rules::rules_poll_poll_accepts_ballot))]
+    #[tactic(auto, using(crate::proofs::AllRoundsLaws::accepts), unfolding(crate::specs::Acceptance::accepts_ballot, crate::specs::Acceptance::accepts_opening, crate::specs::Acceptance::counts, crate::specs::Acceptance::bears))]
     pub fn accepts_ballot(&self, speaker: u8, value: u16) -> bool
         ensures { result ≡ accepts_ballot limits self.now.n (heard limits self.now.delivered) self.now.round speaker value }
     {
@@ -152,7 +152,7 @@ impl<'a> Poll<'a> {
     }
 
     // The boards of 1 to n whose accepted ballots of the round bear a value.
-    #[tactic(auto, using(crate::proofs::Rules::rules_poll_poll_ballots_for))]
+    #[tactic(auto, using(crate::proofs::PollLaws::backing))]
     pub fn ballots_for(&self, value: u16) -> BoardSet
         ensures { result ≡ set_of self.now.n (λ (s : ℕ). accepts_ballot limits self.now.n (heard limits self.now.delivered) self.now.round s value) }
     {
@@ -163,7 +163,7 @@ impl<'a> Poll<'a> {
     }
 
     // The boards of 1 to n with an accepted ballot of the round, whatever it bears.
-    #[tactic(auto, using(crate::proofs::Rules::rules_poll_poll_ballots))]
+    #[tactic(auto, using(crate::proofs::PollLaws::joined, crate::proofs::PollLaws::alone))]
     pub fn ballots(&self) -> BoardSet
         ensures { result ≡ set_of self.now.n (accepts_some limits self.now.n (heard limits self.now.delivered) self.now.round) }
     {

@@ -1,30 +1,48 @@
--- Each claim is a law. Assumes nothing.
-use Rattle.delivery.proofs.ClaimLaws as claim
+-- Each claim is a law, or what the laws of its subject say together. Assumes nothing.
+use native.Mathlib.Omega.{arith}
+use Rattle.std.proofs.lemmas.Bool.Decides.{nat_tests}
+use Rattle.delivery.specs.Tests.{◌and◌, ◌or◌, neg}
+use Rattle.delivery.specs.Limits.{limits}
+use Rattle.delivery.specs.Sets.{bits}
+use Rattle.delivery.specs.Owed.{lacks}
+use Rattle.delivery.specs.Claims.{HasSets}
+use Rattle.delivery.specs.declared.owed.Owed.{Owed}
+use Rattle.delivery.proofs.SetLaws.{in-none, in-set_of-within}
+use Rattle.delivery.proofs.GrowthLaws.{deliver-grows}
+use Rattle.delivery.proofs.DeliveredLaws as delivered
+use Rattle.delivery.proofs.OwedLaws as owed
 use Rattle.delivery.proofs.claims.every_copy.Goals as goal
 
-pub returns-clause-nothing_delivered : goal.returns-clause-nothing_delivered
-returns-clause-nothing_delivered c = claim.nothing-delivered
+-- the form of a record of owed copies, and the laws' word for it
+whole : (o : Owed) → HasSets o → owed.Whole limits o
+whole o w = record { size = w.speakers; each = w.identifiers }
 
-pub returns-clause-keeps : goal.returns-clause-keeps
-returns-clause-keeps c = claim.delivery-keeps
+sets : (o : Owed) → owed.Whole limits o → HasSets o
+sets o w = record { speakers = w.size; identifiers = w.each }
 
-pub returns-clause-adds : goal.returns-clause-adds
-returns-clause-adds c = claim.delivery-adds
-
-pub returns-clause-only : goal.returns-clause-only
-returns-clause-only c = claim.delivery-only
-
-pub returns-clause-nothing_owed : goal.returns-clause-nothing_owed
-returns-clause-nothing_owed c = claim.nothing-owed
-
-pub returns-clause-signing : goal.returns-clause-signing
-returns-clause-signing c = claim.signing-owes
-
-pub returns-clause-delivery : goal.returns-clause-delivery
-returns-clause-delivery c = claim.delivery-owes
-
-pub returns-clause-others : goal.returns-clause-others
-returns-clause-others c = claim.others-owed
-
-pub returns-clause-sets : goal.returns-clause-sets
-returns-clause-sets c = claim.sets-stay
+pub returns : goal.returns
+unfolding lacks ◌and◌ ◌or◌ neg
+returns c =
+    record {
+      nothing_delivered = ((delivered.nothing-whole limits).size, delivered.heard-nothing limits);
+      keeps = λ d s i v. (λ p. (delivered.deliver-whole limits d s i v (record { size = p })).size, deliver-grows limits d s i v);
+      adds = λ d s i v p. delivered.deliver-same limits d s i v (record { size = p });
+      only = delivered.deliver-other limits;
+      nothing_owed = (sets _ (owed.nothing-whole limits), λ s i k t. grind (arith, owed.owed-nothing limits s i, in-none k));
+      signing = λ o s i sound have k w b d low high.
+          rw
+          (owed.signing-here limits o s i sound have (whole o w) b d, in-set_of-within bits _ k low high)
+          (λ t. grind (arith, nat_tests), λ t. grind (arith, nat_tests));
+      delivery = λ o j s i sound have k w b d low high.
+          rw
+          (owed.delivery-here limits o j s i sound have (whole o w) b d, in-set_of-within bits _ k low high)
+          (λ t. grind (arith, nat_tests), λ t. grind (arith, nat_tests));
+      others = λ o j s i sound have s' i' f. (
+        owed.signing-there limits o s i sound have s' i' f,
+        owed.delivery-there limits o j s i sound have s' i' f,
+      );
+      sets = λ o j s i sound have w. (
+        sets _ (owed.after-signing-whole limits o s i sound have (whole o w)),
+        sets _ (owed.after-delivery-whole limits o j s i sound have (whole o w)),
+      );
+    }
