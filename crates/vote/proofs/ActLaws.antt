@@ -1,5 +1,5 @@
--- A turn and what is said of it in words say the same. This goes by no law of the rule or of a turn, which would only say their
--- definitions again. Assumes nothing.
+-- A turn and what is said of it in words say the same. This goes by no law of the rule or of a turn, which would only
+-- say their definitions again. Assumes nothing.
 use Prim.Native.Nat.{ℕ, ◌≤◌}
 use native.Mathlib.Omega.{arith}
 use mathlib.Core.Path.{◌≡◌, refl, subst}
@@ -71,15 +71,18 @@ module _ (n me : ℕ) (p : Position) (h : Store) (some : 1 ≤ n) (fit : OfValue
   unfolding may_count ◌and◌ ◌or◌
   counts =
       let e = every-reads n (λ (s : ℕ). accepts_some limits n h r s or in_set p.suspected s) in
-      let f = reads-every n (λ (s : ℕ). accepts_some limits n h r s or in_set p.suspected s) in
-      (λ t. record { enough = grind (arith, nat_tests); rest = λ s l u. let x = e (grind arith) s l u in grind arith }, λ c. grind (arith, nat_tests))
+      let f = reads-every n (λ (s : ℕ). accepts_some limits n h r s or in_set p.suspected s) in (
+        λ t. record { enough = grind (arith, nat_tests); rest = λ s l u. let x = e (grind arith) s l u in grind arith },
+        λ c. grind (arith, nat_tests),
+      )
 
   -- the estimate that the round leaves
   leaves : Leaves n me p h (next_estimate limits n p h)
   unfolding next_estimate tally
   leaves =
-      let c : (borne (overlap n) ≡ 0 → ⊥) → Leaves n me p h (borne (overlap n)) = λ z. changed z (found (overlap n) z) in
-      let k : borne (overlap n) ≡ 0 → Leaves n me p h p.estimate = λ z. kept (none-has (overlap n) (overlap-pos n some) z) refl in
+      let e = overlap n in
+      let c : (borne e ≡ 0 → ⊥) → Leaves n me p h (borne e) = λ z. changed z (found e z) in
+      let k : borne e ≡ 0 → Leaves n me p h p.estimate = λ z. kept (none-has e (overlap-pos n some) z) refl in
       grind (arith, nat_tests)
 
   left : (v : ℕ) → Leaves n me p h v → next_estimate limits n p h ≡ v
@@ -120,11 +123,26 @@ module _ (n me : ℕ) (p : Position) (h : Store) (some : 1 ≤ n) (fit : OfValue
   acts-rule _ (says-nothing s f) = grind (arith, nat_tests)
   acts-rule _ (awaits-opening s f) = let v = votes in grind arith
   acts-rule _ (backs-opening v s m a) = let t = votes.1 m in let o = accepted v a in grind arith
-  acts-rule _ (votes-blank s m f) = let t = votes.1 m in let o = opened-reads limits n h r in let g = f (opened_value limits n h r) in grind arith
+  acts-rule _ (votes-blank s m f) =
+      let t = votes.1 m in
+      let o = opened-reads limits n h r in
+      let g = f (opened_value limits n h r) in
+      grind arith
   acts-rule _ (awaits-ballots s f) = let c = counts in grind arith
-  acts-rule _ (decides-value v s m z l) = let t = counts.1 m in let e = has (quorum n) v q-some z l in grind (arith, nat_tests)
-  acts-rule _ (goes-on v s m f l x) = let t = counts.1 m in let z = has-none (quorum n) f in let e = left v x in grind (arith, nat_tests)
-  acts-rule _ (is-spent v s m f l x) = let t = counts.1 m in let z = has-none (quorum n) f in let e = left v x in grind (arith, nat_tests)
+  acts-rule _ (decides-value v s m z l) =
+      let t = counts.1 m in
+      let e = has (quorum n) v q-some z l in
+      grind (arith, nat_tests)
+  acts-rule _ (goes-on v s m f l x) =
+      let t = counts.1 m in
+      let z = has-none (quorum n) f in
+      let e = left v x in
+      grind (arith, nat_tests)
+  acts-rule _ (is-spent v s m f l x) =
+      let t = counts.1 m in
+      let z = has-none (quorum n) f in
+      let e = left v x in
+      grind (arith, nat_tests)
 
 same-turn : {me : ℕ} {b : Board} {m : Move} {t u : Turn} → Leads me b m t → u ≡ t → Leads me b m u
 same-turn x e = rw e x
@@ -155,7 +173,8 @@ unfolding turn turn_in
 turn-said n me b some fit round =
     let m = rule limits n me b.position (heard limits b.delivered) in
     let x = rule-acts n me b.position (heard limits b.delivered) some fit in
-    let y = λ (e : b.status ≡ Voting). makes-move m (take limits me b m) e x (leads n me b e (within_in limits.rounds _ (round e).0 (round e).1) m x) in
+    let i = λ (e : b.status ≡ Voting). within_in limits.rounds b.position.round.0 (round e).0 (round e).1 in
+    let y = λ (e : b.status ≡ Voting). makes-move m (take limits me b m) e x (leads n me b e (i e) m x) in
     grind (arith, not-started, was-spent, had-decided)
 
 -- what the program's rule says by its contract

@@ -69,14 +69,17 @@ module _ (L : Limits) (n : ℕ) (h : Store) (r : ℕ) where
   unfolding tally
   tally-opens w z l = let x = find n (λ (s : ℕ). accepts_ballot L n h r s w) l in ballot-needs L n h r x.0 w z x.3
 
-  pub tally-other : (w : ℕ) → opening_entry L n h r ≤ entry_of values → (w ≡ 0 → ⊥) → (opened ≡ w → ⊥) → tally L n h r w ≡ 0
+  -- so no ballot bears another value
+  pub tally-other : (w : ℕ) → opening_entry L n h r ≤ entry_of values → (w ≡ 0 → ⊥) → (opened ≡ w → ⊥)
+      → tally L n h r w ≡ 0
   tally-other w l z f = let o = tally-opens w z in let x = reads-opened w l in grind arith
 
   -- what a ballot bears, other than the blank, is the opening's value
   borne-opened : (s : ℕ) → (borne_by L n h r s ≡ 0)
       ⊎ ((borne_by L n h r s ≡ opened) × (accepts_ballot L n h r s opened ≡ true))
   unfolding borne_by
-  borne-opened s = grind (arith, nat_tests, accepted-reads, ballot-reads, entry_value, ballot-needs, reads-opened, value-within)
+  borne-opened s =
+      grind (arith, nat_tests, accepted-reads, ballot-reads, entry_value, ballot-needs, reads-opened, value-within)
 
   opened-borne : (s : ℕ) → accepts_ballot L n h r s opened ≡ true → borne_by L n h r s ≡ opened
   unfolding borne_by
@@ -87,7 +90,8 @@ module _ (L : Limits) (n : ℕ) (h : Store) (r : ℕ) where
       grind (arith, nat_tests)
 
   -- so a value that m or more ballots bear, and one at least, can be no other
-  with-some : (m : ℕ) → (opened ≡ 0 → ⊥) → 1 ≤ tally L n h r opened → m ≤ tally L n h r opened → value_with L n h r m ≡ 0 → ⊥
+  with-some : (m : ℕ) → (opened ≡ 0 → ⊥) → 1 ≤ tally L n h r opened → m ≤ tally L n h r opened
+      → value_with L n h r m ≡ 0 → ⊥
   unfolding value_with tally ◌and◌ neg
   with-some m z l g =
       let k = find n (λ (s : ℕ). accepts_ballot L n h r s opened) l in

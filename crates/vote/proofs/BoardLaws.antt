@@ -1,5 +1,5 @@
--- Laws of a fresh board, and of the calls that are no turn: a proposal, a delivery, a suspicion, an announcement. Assumes
--- nothing.
+-- Laws of a fresh board, and of the calls that are no turn: a proposal, a delivery, a suspicion, an announcement.
+-- Assumes nothing.
 use Prim.Native.Nat.{ℕ}
 use native.Mathlib.Omega.{arith}
 use mathlib.Core.Path.{◌≡◌, refl}
@@ -30,12 +30,12 @@ pub record Convinced (L : Limits) (n : ℕ) (b : Board) (r v : ℕ) : Type 0 whe
   pub won : Won L n (heard L b.delivered) r v
 
 pub reads-convinced : (L : Limits) (n : ℕ) (b : Board) (r v : ℕ) → Convinced L n b r v → convinced L n b r v ≡ true
-unfolding convinced tally ◌and◌ neg
+unfolding convinced is_decided tally ◌and◌ neg
 reads-convinced L n b r v c = grind (arith, nat_tests)
 
 -- what the program goes by where it tests
 pub ruleset tests =
-    (if-true, if-false, and_in, and_right, and-no-left, and-no-right, neg-in, neg-no, or_left, or_right, or_no, same_test)
+    (if-true, if-false, and_in, and_right, and-no-left, and-no-right, neg-in, neg-no, or_left, or_right, or_no)
 
 -- for the crates above: a fresh board, and what each call comes to
 module _ (L : Limits) where
@@ -56,7 +56,8 @@ module _ (L : Limits) where
   fresh-status = refl
 
 module _ (b : Board) (v : ℕ) where
-  pub propose-starts : is_started b.status ≡ false → (v ≡ 0 → ⊥) → propose b v ≡ placed b (record { 0 = 1 }) v Open b.delivered Voting
+  pub propose-starts : is_started b.status ≡ false → (v ≡ 0 → ⊥)
+      → propose b v ≡ placed b (record { 0 = 1 }) v Open b.delivered Voting
   unfolding propose starting_with ◌or◌
   propose-starts s z = grind (arith, nat_tests)
 

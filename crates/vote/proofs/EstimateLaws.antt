@@ -50,7 +50,8 @@ module _ (L : Limits) (n : ℕ) (p : Position) (h : Store) (l : opening_entry L 
   next-within v e x = grind (arith, tally-within)
 
   -- that is allowed in this round
-  next-permitted : (v : ℕ) → Next L n p h v → allowed L n h p.round.0 p.estimate ≡ true → allowed L n h p.round.0 v ≡ true
+  next-permitted : (v : ℕ) → Next L n p h v → allowed L n h p.round.0 p.estimate ≡ true
+      → allowed L n h p.round.0 v ≡ true
   next-permitted v x a = grind (arith, tally-opens, opening-reads)
 
   -- and in the next one
@@ -77,7 +78,8 @@ fresh-admitted L n = grind (arith, heard-nothing)
 -- every call that fits keeps it
 pub called-admitted : (L : Limits) (n me : ℕ) (b : Board) → 1 ≤ n → Proper L b → Admitted L n b → (c : Call) → Fits c
     → Admitted L n (called L n me b c)
-unfolding called propose starting_with deliver_to hears announce convinced with_status suspect trust turn turn_in position_after at_stage status_after said_in hears_own is_started ◌and◌ ◌or◌ neg
+unfolding called propose starting_with deliver_to hears announce convinced with_status suspect trust turn turn_in
+    position_after at_stage status_after said_in hears_own is_started ◌and◌ ◌or◌ neg
 called-admitted L n me b some p a c f =
     let h = heard L b.delivered in
     let m = rule-makes L n me b.position h in
@@ -100,14 +102,5 @@ pub after-admitted : (L : Limits) (n me : ℕ) → 1 ≤ n → 1 ≤ L.rounds �
 unfolding after
 after-admitted L n me some rounds b p a [] none_left = a
 after-admitted L n me some rounds b p a (c ∷ cs) (fits-first _ _ f fs) =
-    after-admitted
-    L
-    n
-    me
-    some
-    rounds
-    (called L n me b c)
-    (called-proper L b p n me rounds c)
-    (called-admitted L n me b some p a c f)
-    cs
-    fs
+    let q = called-proper L b p n me rounds c in
+    after-admitted L n me some rounds (called L n me b c) q (called-admitted L n me b some p a c f) cs fs

@@ -44,7 +44,8 @@ module _ (L : Limits) (n me : ℕ) (b : Board) where
   -- and whoever makes one, by its turn or by an announcement, has q accepted ballots with the value
   pub called-won : (c : Call) (d : Decision) → (called L n me b c).status ≡ Decided d
       → (b.status ≡ Decided d) ⊎ Won L n (store L b) d.round.0 d.value
-  unfolding called propose deliver_to announce convinced with_status suspect trust turn turn_in status_after ◌and◌ ◌or◌ neg
+  unfolding called propose deliver_to announce convinced with_status suspect trust turn turn_in status_after ◌and◌ ◌or◌
+      neg
   called-won c d e = let m = rule-makes L n me b.position (store L b) in grind (arith, nat_tests, tally-won)
 
 -- a board that has decided has q accepted ballots with its value
@@ -55,7 +56,8 @@ pub fresh-grounded : (L : Limits) (n : ℕ) → Grounded L n (fresh_board L)
 unfolding fresh_board
 fresh-grounded L n = grind arith
 
-pub called-grounded : (L : Limits) (n me : ℕ) (b : Board) → Grounded L n b → (c : Call) → Grounded L n (called L n me b c)
+pub called-grounded : (L : Limits) (n me : ℕ) (b : Board) → Grounded L n b → (c : Call)
+    → Grounded L n (called L n me b c)
 called-grounded L n me b g c =
     record {
       won =
@@ -67,8 +69,8 @@ called-grounded L n me b g c =
     }
 
 -- what every call keeps, a list of calls keeps
-pub after-kept : (L : Limits) (n me : ℕ) (P : Board → Type 0) → ((b : Board) → P b → (c : Call) → P (called L n me b c)) → (b : Board) → P b
-    → (cs : List Call) → P (after L n me b cs)
+pub after-kept : (L : Limits) (n me : ℕ) (P : Board → Type 0) → ((b : Board) → P b → (c : Call) → P (called L n me b c))
+    → (b : Board) → P b → (cs : List Call) → P (after L n me b cs)
 unfolding after
 after-kept L n me P f b p [] = p
 after-kept L n me P f b p (c ∷ cs) = after-kept L n me P f (called L n me b c) (f b p c) cs
@@ -76,13 +78,15 @@ after-kept L n me P f b p (c ∷ cs) = after-kept L n me P f (called L n me b c)
 module _ (L : Limits) (n me : ℕ) (b : Board) (p : Proper L b) where
   -- what is due rises, and what is signed lies between
   pub called-due : (c : Call) → due L b ≤ due L (called L n me b c)
-  unfolding due due_at called propose starting_with deliver_to announce convinced with_status suspect trust turn turn_in position_after at_stage status_after is_started ◌and◌ ◌or◌ neg
+  unfolding due due_at called propose starting_with deliver_to announce convinced with_status suspect trust turn turn_in
+      position_after at_stage status_after is_started ◌and◌ ◌or◌ neg
   called-due c =
       let m = rule-makes L n me b.position (store L b) in
       let r = p.round in
       grind (arith, nat_tests, opening-ballot, ballot-opening, next-at, within_in)
 
-  called-signs : (c : Call) → IfSome (signed_in L n me b c) (λ (s : Statement). (due L b ≤ s.id.0) × (s.id.0 < due L (called L n me b c)))
+  called-signs : (c : Call)
+      → IfSome (signed_in L n me b c) (λ (s : Statement). (due L b ≤ s.id.0) × (s.id.0 < due L (called L n me b c)))
   unfolding called signed_in
   called-signs c =
       let d = λ (s : Statement) (e : (turn L n me b).signed ≡ Some s). signs-due L n me b s (turn-signs L n me b s e) in
@@ -93,8 +97,8 @@ rising-from : (m k : ℕ) (ss : List Statement) → m ≤ k → Rising k ss → 
 rising-from m k [] l (no_more _) = no_more m
 rising-from m k (s ∷ ss) l (and_then _ _ _ h r) = and_then m s ss (omega arith) r
 
-put-rising : (m k : ℕ) (x : Option Statement) (ss : List Statement) → m ≤ k → IfSome x (λ (s : Statement). (m ≤ s.id.0) × (s.id.0 < k))
-    → Rising k ss → Rising m (put x ss)
+put-rising : (m k : ℕ) (x : Option Statement) (ss : List Statement) → m ≤ k
+    → IfSome x (λ (s : Statement). (m ≤ s.id.0) × (s.id.0 < k)) → Rising k ss → Rising m (put x ss)
 unfolding put
 put-rising m k None ss l i r = rising-from m k ss l r
 put-rising m k (Some s) ss l i r = and_then m s ss i.0 (rising-from (suc s.id.0) k ss i.1 r)
@@ -105,14 +109,8 @@ pub statements-rise : (L : Limits) (n me : ℕ) → 1 ≤ L.rounds → (b : Boar
 unfolding statements
 statements-rise L n me some b p [] = no_more (due L b)
 statements-rise L n me some b p (c ∷ cs) =
-    put-rising
-    _
-    _
-    _
-    _
-    (called-due L n me b p c)
-    (called-signs L n me b p c)
-    (statements-rise L n me some (called L n me b c) (called-proper L b p n me some c) cs)
+    let r = statements-rise L n me some (called L n me b c) (called-proper L b p n me some c) cs in
+    put-rising _ _ _ _ (called-due L n me b p c) (called-signs L n me b p c) r
 
 -- for the crates above: what each call comes to
 module _ (L : Limits) (n me : ℕ) (b : Board) where

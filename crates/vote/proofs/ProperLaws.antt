@@ -1,5 +1,5 @@
--- What holds of a board through every call: its store is whole, its round is a round once it has started, its estimate is
--- a value, and it is spent nowhere but at stage C of the last round. Assumes nothing.
+-- What holds of a board through every call: its store is whole, its round is a round once it has started, its estimate
+-- is a value, and it is spent nowhere but at stage C of the last round. Assumes nothing.
 use Prim.Native.Nat.{ℕ, ◌≤◌}
 use native.Mathlib.Omega.{arith}
 use mathlib.Core.Path.{◌≡◌}
@@ -38,7 +38,8 @@ module _ (L : Limits) (b : Board) (p : Proper L b) where
 
   -- every call keeps it, where there is a round at all
   pub called-proper : (n me : ℕ) → 1 ≤ L.rounds → (c : Call) → Proper L (called L n me b c)
-  unfolding called propose starting_with deliver_to hears announce convinced with_status suspect trust turn turn_in position_after at_stage status_after hears_own is_started ◌and◌ ◌or◌ neg
+  unfolding called propose starting_with deliver_to hears announce convinced with_status suspect trust turn turn_in
+      position_after at_stage status_after hears_own is_started ◌and◌ ◌or◌ neg
   called-proper n me some c =
       let m = rule-makes L n me b.position (heard L b.delivered) in
       record {

@@ -34,12 +34,13 @@ use Rattle.vote.proofs.BallotLaws.{with-opened, tally-won}
 
 -- stage B, as the program asks
 pub may-vote : (L : Limits) (n : ℕ) (p : Position) (h : Store)
-    → may_vote L n p h ≡ (if eqb (opening_entry L n h p.round.0) 0 then in_set p.suspected (coordinator n p.round.0) else true)
+    → may_vote L n p h
+    ≡ (if eqb (opening_entry L n h p.round.0) 0 then in_set p.suspected (coordinator n p.round.0) else true)
 unfolding may_vote ◌or◌ neg
 may-vote L n p h = grind (arith, nat_tests)
 
--- Stage C by sets, as the program counts: m is that of the boards with an accepted ballot. Only boards that there can be have one,
--- so where a quorum has there are no more boards than a set has bits.
+-- Stage C by sets, as the program counts: m is that of the boards with an accepted ballot. Only boards that there can
+-- be have one, so where a quorum has there are no more boards than a set has bits.
 module _ (L : Limits) (n : ℕ) (p : Position) (d : Delivered) (m : ℕ) where
   abbrev accepted : ℕ → Bool
   accepted = accepts_some L n (heard L d) p.round.0
@@ -50,7 +51,8 @@ module _ (L : Limits) (n : ℕ) (p : Position) (d : Delivered) (m : ℕ) where
       (accepted s)
       (λ b.
       let a = accepted-reads L n (heard L d) p.round.0 s b in
-      let x = heard-nobody L d.entries s (identifier_of L Ballot p.round.0) (fails (is_board L s) (λ k. omega (arith, within-high L.boards s k))) in
+      let o = fails (is_board L s) (λ k. omega (arith, within-high L.boards s k)) in
+      let x = heard-nobody L d.entries s (identifier_of L Ballot p.round.0) o in
       omega (arith, (ballot-reads L n (heard L d) p.round.0 s a.0 a.1).said, x))
 
   counted : m ≡ set_of n accepted → count_in n (in_set m) ≡ count_in n accepted
@@ -59,9 +61,8 @@ module _ (L : Limits) (n : ℕ) (p : Position) (d : Delivered) (m : ℕ) where
   few-accepted : m ≡ set_of n accepted → count_in n (in_set m) ≤ L.boards
   few-accepted e =
       let k = min n L.boards in
-      let c : count_in n (in_set m) ≡ count_in k accepted =
-      ap (λ (s : ℕ). count_in n (in_set s)) (e ∙ set_beyond n L.boards accepted accepted-board) ∙ count_set n k accepted (omega arith) in
-      omega (arith, c, count-le k accepted)
+      let c = ap (λ (s : ℕ). count_in n (in_set s)) (e ∙ set_beyond n L.boards accepted accepted-board) in
+      omega (arith, c, count_set n k accepted (omega arith), count-le k accepted)
 
   pub count-few_in : m ≡ set_of n accepted → count_in n (in_set m) < quorum n → may_count L n p (heard L d) ≡ false
   unfolding may_count ◌and◌
@@ -75,11 +76,19 @@ module _ (L : Limits) (n : ℕ) (p : Position) (d : Delivered) (m : ℕ) where
       let present = λ (s : ℕ). accepted s or in_set p.suspected s in
       let c = counted e in
       let u = every-counted n present in
-      let same : count_in n present ≡ count_in n (in_set (union m p.suspected)) =
-      count-cong n present (in_set (union m p.suspected)) (λ k g u. let x = in-set_of-within n accepted k g u in let y = in-union m p.suspected k g (omega arith) in cc) in
+      let same =
+      count-cong
+      n
+      present
+      (in_set (union m p.suspected))
+      (λ k g u.
+      let x = in-set_of-within n accepted k g u in
+      let y = in-union m p.suspected k g (omega arith) in
+      cc) in
       grind (arith, nat_tests)
 
--- how a round that decides nothing leaves the estimate: as it was, or a value that e or more accepted ballots bear, and one at least
+-- how a round that decides nothing leaves the estimate: as it was, or a value that e or more accepted ballots bear, and
+-- one at least
 abbrev pub Next : Limits → ℕ → Position → Store → ℕ → Type 0
 Next L n p h v =
     ((v ≡ p.estimate) × (carried L n p h ≡ 0))
@@ -94,7 +103,10 @@ module _ (L : Limits) (n me : ℕ) (p : Position) (h : Store) where
   Makes (Ballots v) = (p.stage ≡ Vote) × (v ≡ opened_value L n h p.round.0)
   Makes (Decides v) = Won L n h p.round.0 v
   Makes (Advances v) =
-      (p.stage ≡ Count) × (quorum n ≤ count_in n (accepts_some L n h p.round.0)) × (p.round.0 < L.rounds) × Next L n p h v
+      (p.stage ≡ Count)
+      × (quorum n ≤ count_in n (accepts_some L n h p.round.0))
+      × (p.round.0 < L.rounds)
+      × Next L n p h v
   Makes (Expires v) = (p.stage ≡ Count) × (L.rounds ≤ p.round.0) × Next L n p h v
 
   pub rule-makes : Makes (rule L n me p h)

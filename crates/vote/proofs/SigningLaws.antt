@@ -56,7 +56,8 @@ module _ (L : Limits) (n me : ℕ) (b : Board) where
     speaks : (s : Statement) → Signs L n me b s → t.signed ≡ Some s → t.board.delivered ≡ hears L b.delivered s
         → (is_round L b.position.round.0 ≡ true → due L b < due L t.board) → Speech t
 
-  turn-hears : (o : Option Statement) → (turn L n me b).signed ≡ o → (turn L n me b).board.delivered ≡ hears_own L b.delivered o
+  turn-hears : (o : Option Statement) → (turn L n me b).signed ≡ o
+      → (turn L n me b).board.delivered ≡ hears_own L b.delivered o
   unfolding turn turn_in hears_own
   turn-hears o e = grind arith
 

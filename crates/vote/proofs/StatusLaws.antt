@@ -77,6 +77,7 @@ pub decides-status : (r v : ℕ) → status_after r (Decides v) ≡ Decided (dec
 unfolding status_after
 decides-status r v = refl
 
-pub status-decides : (r : ℕ) (m : Move) (d : Decision) → status_after r m ≡ Decided d → (m ≡ Decides d.value) × (r ≡ d.round.0)
+pub status-decides : (r : ℕ) (m : Move) (d : Decision) → status_after r m ≡ Decided d
+    → (m ≡ Decides d.value) × (r ≡ d.round.0)
 unfolding status_after
 status-decides r m d e = grind arith

@@ -56,7 +56,11 @@ waiting-is = refl
 -- a board with another round, estimate, stage, store and status; whom it suspects is the same
 abbrev pub placed : Board → Round → ℕ → Stage → Delivered → Status → Board
 placed b r e s d t =
-    record { position = record { round = r; estimate = e; stage = s; suspected = b.position.suspected }; delivered = d; status = t }
+    record {
+      position = record { round = r; estimate = e; stage = s; suspected = b.position.suspected };
+      delivered = d;
+      status = t;
+    }
 
 -- a turn that is taken
 abbrev pub done : Board → Turn
@@ -72,23 +76,27 @@ module _ (L : Limits) (me : ℕ) (b : Board) where
   take-passes = refl
 
   pub take-opens : (v : ℕ) → let s = statement_of L me Opening b.position.round.0 v in
-      take L me b (Opens v) ≡ spoken (placed b b.position.round b.position.estimate Vote (hears L b.delivered s) Voting) s
+      take L me b (Opens v)
+      ≡ spoken (placed b b.position.round b.position.estimate Vote (hears L b.delivered s) Voting) s
   unfolding position_after at_stage status_after said_in hears_own answer_to
   take-opens v = refl
 
   pub take-ballots : (v : ℕ) → let s = statement_of L me Ballot b.position.round.0 v in
-      take L me b (Ballots v) ≡ spoken (placed b b.position.round b.position.estimate Count (hears L b.delivered s) Voting) s
+      take L me b (Ballots v)
+      ≡ spoken (placed b b.position.round b.position.estimate Count (hears L b.delivered s) Voting) s
   unfolding position_after at_stage status_after said_in hears_own answer_to
   take-ballots v = refl
 
   pub take-decides : (v : ℕ)
       → take L me b (Decides v)
-      ≡ done (record { position = b.position; delivered = b.delivered; status = Decided (decision_of b.position.round.0 v) })
+      ≡ done
+      (record { position = b.position; delivered = b.delivered; status = Decided (decision_of b.position.round.0 v) })
   unfolding position_after status_after said_in hears_own answer_to
   take-decides v = refl
 
   pub take-advances : (v : ℕ)
-      → take L me b (Advances v) ≡ done (placed b (record { 0 = next_round L b.position.round.0 }) v Open b.delivered Voting)
+      → take L me b (Advances v)
+      ≡ done (placed b (record { 0 = next_round L b.position.round.0 }) v Open b.delivered Voting)
   unfolding position_after status_after said_in hears_own answer_to
   take-advances v = refl
 
@@ -110,6 +118,7 @@ module _ (L : Limits) (n me : ℕ) (b : Board) where
   unfolding turn turn_in
   turn-voting e = rw e
 
-  pub turn-waits : rule L n me b.position (heard L b.delivered) ≡ Waits → b.status ≡ Voting → turn L n me b ≡ refuse b Waiting
+  pub turn-waits : rule L n me b.position (heard L b.delivered) ≡ Waits → b.status ≡ Voting
+      → turn L n me b ≡ refuse b Waiting
   unfolding turn turn_in position_after status_after said_in hears_own answer_to
   turn-waits w v = grind arith

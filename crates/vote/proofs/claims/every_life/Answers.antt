@@ -11,7 +11,7 @@ use Rattle.delivery.proofs.SetLaws.{with-twice, without-twice}
 use Rattle.vote.specs.Ballots.{tally}
 use Rattle.vote.specs.Boards.{fresh_board, is_started, hears, deliver_to, suspect, trust}
 use Rattle.vote.specs.Turns.{position_after, status_after, said_in, hears_own, answer_to, turn_in, turn}
-use Rattle.vote.specs.Calls.{Call, after, board_after}
+use Rattle.vote.specs.Calls.{Call, board_after}
 use Rattle.vote.specs.Life.{EachFits}
 use Rattle.vote.specs.declared.board.Board.{Board}
 use Rattle.vote.specs.declared.board.Status.TheVariants.{Decided}
@@ -24,17 +24,19 @@ use Rattle.vote.proofs.claims.every_life.Goals as goal
 
 proper : (n me : ℕ) (cs : List Call) → Proper limits (board_after n me cs)
 proper n me =
-    after-kept limits n me (Proper limits) (λ b p. called-proper limits b p n me (omega arith)) (fresh_board limits) (fresh-proper limits)
+    let k = λ (b : Board) (p : Proper limits b). called-proper limits b p n me (omega arith) in
+    after-kept limits n me (Proper limits) k (fresh_board limits) (fresh-proper limits)
 
 admitted : (n me : ℕ) (cs : List Call) → 1 ≤ n → EachFits cs → Admitted limits n (board_after n me cs)
 admitted n me cs some =
-    after-admitted limits n me some (omega arith) (fresh_board limits) (fresh-proper limits) (fresh-admitted limits n) cs
+    let a = fresh-admitted limits n in
+    after-admitted limits n me some (omega arith) (fresh_board limits) (fresh-proper limits) a cs
 
 pub returns-clause-backed : goal.returns-clause-backed
 unfolding tally
 returns-clause-backed c n me cs d e =
-    let g : Grounded limits n (board_after n me cs) =
-    after-kept limits n me (Grounded limits n) (called-grounded limits n me) (fresh_board limits) (fresh-grounded limits n) cs in
+    let k = called-grounded limits n me in
+    let g = after-kept limits n me (Grounded limits n) k (fresh_board limits) (fresh-grounded limits n) cs in
     let w = g.won d e in
     (w.value, w.quorum-bears)
 
@@ -73,17 +75,9 @@ returns-clause-hears c n me cs s b i z = deliver-same limits _ s.speaker s.id.0 
 pub returns-clause-keeps : goal.returns-clause-keeps
 returns-clause-keeps c n me b cs s i f =
     let h = heard limits b.delivered in
-    let g : Grows h (heard limits (after limits n me b cs).delivered) =
-    after-kept
-    limits
-    n
-    me
-    (λ (x : Board). Grows h (heard limits x.delivered))
-    (λ x g c. grows-on h _ _ g (called-grows limits n me x c))
-    b
-    (grows_same h)
-    cs in
-    g.keeps s i f
+    let P = λ (x : Board). Grows h (heard limits x.delivered) in
+    let k = λ (x : Board) (g : P x) (c : Call). grows-on h _ _ g (called-grows limits n me x c) in
+    (after-kept limits n me P k b (grows_same h) cs).keeps s i f
 
 pub returns-clause-repeated : goal.returns-clause-repeated
 unfolding suspect trust
