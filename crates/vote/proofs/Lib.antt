@@ -8,6 +8,4 @@ pub mod SigningLaws
 pub mod ProperLaws
 pub mod LifeLaws
 pub mod EstimateLaws
-pub mod ClaimLaws
 pub mod ExampleLaws
-pub mod Rules

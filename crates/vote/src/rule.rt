@@ -58,7 +58,7 @@ impl<'a> Outlook<'a> {
 
     // The value that so many accepted ballots of the round bear, or more, if there is one. Only the opening's value can be
     // it, and where that is accepted so is each ballot that bears it.
-    #[tactic(auto, using(crate::proofs::Rules::rules_rule_outlook_value_with), unfolding(crate::specs::Private::some_with, crate::specs::Private::some_opened))]
+    #[tactic(auto, using(crate::proofs::BallotLaws::ballots), unfolding(crate::specs::Private::some_with, crate::specs::Private::some_opened))]
     fn value_with(&self, least: u8) -> Option<u16>
         ensures { result ≡ by_round some_with self.now least }
     {
@@ -79,7 +79,7 @@ impl<'a> Outlook<'a> {
     }
 
     // Whether the board may vote: its coordinator's opening is there, or the coordinator is suspected.
-    #[tactic(auto, using(crate::proofs::Rules::rules_rule_outlook_may_vote))]
+    #[tactic(auto, using(crate::proofs::RuleLaws::votes))]
     fn may_vote(&self) -> bool
         ensures { result ≡ by_position may_vote self.now }
     {
@@ -100,7 +100,7 @@ impl<'a> Outlook<'a> {
 
     // Whether the board may count: a quorum has ballots, and every board without one is suspected. By sets: tried as a
     // chain over the boards, `(1..=n).all(..)`, whose proof did not close.
-    #[tactic(auto, using(crate::proofs::Rules::rules_rule_outlook_may_count))]
+    #[tactic(auto, using(crate::proofs::RuleLaws::counts))]
     fn may_count(&self) -> bool
         ensures { result ≡ by_position may_count self.now }
     {
@@ -148,7 +148,7 @@ impl<'a> Outlook<'a> {
 
 impl Position {
     // What board `me` of n does in its turn. The two numbers stay apart, as in `Board::next_move`.
-    #[tactic(auto, using(crate::proofs::Rules::rules_position_position_rule), unfolding(crate::specs::Rule::rule, crate::specs::Rule::move_at))]
+    #[tactic(auto, using(crate::proofs::ActLaws::said), unfolding(crate::specs::Rule::rule, crate::specs::Rule::move_at))]
     pub fn rule(&self, n: u8, me: u8, delivered: &Delivered) -> Move
         ensures moved { result ≡ rule limits n me self.now (heard limits delivered.now) }
         ensures said { 1 ≤ n
