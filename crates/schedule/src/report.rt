@@ -40,7 +40,7 @@ impl Report {
         + Bench::BOARDS as usize * Report::BOARD_LINE_BYTES;
 
     // Reads a file and plays it.
-    #[tactic(auto, using(crate::proofs::Rules::rules_report_report_of))]
+    #[tactic(auto, using(crate::proofs::PlayLaws::file_played))]
     fn of(file: &[u8]) -> Result<Report, Fault>
         ensures text { report_text limits result ≡ printed limits file.now }
         ensures within { IfOk result (IsWithin limits) }
