@@ -24,7 +24,7 @@ use Rattle.schedule.specs.declared.fault.Fault.{Fault}
 use Rattle.schedule.specs.declared.file.Schedule.{Schedule}
 use Rattle.schedule.proofs.PrintLaws.{put_then}
 use Rattle.schedule.proofs.FileLaws.{schedule-taken}
-use Rattle.schedule.proofs.PlayLaws.{file-fault, begun, events-part}
+use Rattle.schedule.proofs.PlayLaws.{file-fault, begun, events-part, start-taken}
 use Rattle.fenderacai.specs.Rows.{row}
 use Rattle.fenderacai.specs.Private.{row_size}
 use Rattle.fenderacai.specs.Traces.{rows_of, traced_from, traced}
@@ -71,6 +71,8 @@ rows_none c k bs buf next e =
     ap (λ (es : List Event). sets buf next (rows_of limits c es)) (ap (λ (m : ℕ). events_in m bs) e ∙ events-none bs)
     ∙ ap (sets buf next) (rows-nil c)
 
+pub ruleset rows_put = (length-events, length-rows, rows_none)
+
 -- a refused file has no trace
 pub refused-traced : (bs : List ℕ) (w : Fault) → schedule_of limits bs ≡ Err w → traced limits bs ≡ []
 unfolding traced_from
@@ -95,6 +97,8 @@ module _ (bs : List ℕ) (s : Schedule) (t : schedule_of limits bs ≡ Ok s) whe
   -- and the bytes of its events are there
   pub events-fit : event_bytes * s.count ≤ length (drop s.start bs)
   events-fit = let p = schedule-taken bs s t in let r = p.1.0 in rw (p.1.1, events-part bs p.0 r) (omega (arith, r.size))
+
+pub ruleset file_traced = (refused-traced, start-taken)
 
 -- what that is in words
 pub row-words : RowWords

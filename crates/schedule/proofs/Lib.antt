@@ -12,4 +12,3 @@ pub mod PrintLaws
 pub mod PlayLaws
 pub mod ExampleLaws
 pub mod ClaimLaws
-pub mod Rules

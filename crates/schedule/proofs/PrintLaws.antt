@@ -41,6 +41,8 @@ use Rattle.schedule.specs.declared.fault.Fault.{Fault}
 use Rattle.schedule.specs.declared.report.TooShort.{TooShort}
 use Rattle.schedule.proofs.FaultLaws.{fault-row}
 
+infixr 4 ◌then◌
+
 -- writing one text and then another is writing both as one
 sets-append : (xs ys buf : List ℕ) (at : ℕ) → sets (sets buf at xs) (at + length xs) ys ≡ sets buf at (xs ++ ys)
 sets-append [] ys buf at = rw add-zero
@@ -69,17 +71,17 @@ put_then {xs} {ys} {buf} {at = at} p q =
 pub puts_none : {out : MutBor (List ℕ)} {at : ℕ} → Puts [] out at out at
 puts_none = record { text = put-none; same = refl }
 
-pub puts_then : {xs ys : List ℕ} {out out' out'' : MutBor (List ℕ)} {at r r' : ℕ}
+pub ◌then◌ : {xs ys : List ℕ} {out out' out'' : MutBor (List ℕ)} {at r r' : ℕ}
     → Puts xs out at out' r → Puts ys out' r out'' r' → Puts (xs ++ ys) out at out'' r'
-puts_then p q = record { text = put_then p.text q.text; same = q.same ∙ p.same }
+◌then◌ p q = record { text = put_then p.text q.text; same = q.same ∙ p.same }
 
 pub puts_more : {out out' out'' : MutBor (List ℕ)} {at r r' : ℕ} (text : List ℕ) (k : ℕ) → k < length text
     → Puts (take k text) out at out' r → Puts (get_or text k 0 ∷ []) out' r out'' r' → Puts (take (k + 1) text) out at out'' r'
-puts_more text k there p q = rw (take_more text k 0 there) (puts_then p q)
+puts_more text k there p q = rw (take_more text k 0 there) (p then q)
 
--- the buffer is as long as it was
-pub put-length : {xs buf buf' : List ℕ} {at r : ℕ} → PutAt xs buf at buf' r → length buf' ≡ length buf
-put-length {xs} {buf} {at = at} p = rw p.bytes (length-sets buf at xs)
+-- the place is that much further, and the buffer as long as it was
+pub put_size : {xs buf buf' : List ℕ} {at r : ℕ} → PutAt xs buf at buf' r → (r ≡ at + length xs) × (length buf' ≡ length buf)
+put_size {xs} {buf} {at = at} p = (p.place, rw p.bytes (length-sets buf at xs))
 
 -- a decimal is what std has for a number, as far as numbers are printed here
 pub decimal-std : (m : ℕ) → m < 10 ^ 5 → fmt.decimal m ≡ decimal m
@@ -87,6 +89,8 @@ unfolding decimal decimal_in
 decimal-std m h =
     let steps : AppendsLastDigit decimal_in = record { one = λ k n l. if-true _ _ _ (lt-ltb n 10 l); more = λ k n l. if-false _ _ _ (le-ltb n 10 l) } in
     sym (decimal_from_appends decimal_in steps (suc m) m (omega (arith, h)) (omega (arith, length-decimal-le_succ m (omega (arith, h)))))
+
+pub ruleset std_decimal = (decimal-std)
 
 -- below ten it is one digit
 pub decimal-one : (m : ℕ) → m < 10 → decimal m ≡ digit m ∷ []
@@ -118,6 +122,8 @@ refused-within f =
     let row = (fault-row f).1 in
     simp length-append (omega (arith, digits-within 0 (fault_number f) (omega (arith, row)) (omega (arith, row))))
 
+pub ruleset line_bounds = (event-within, board-within, refused-within)
+
 -- before any part nothing is put, and after k parts one part more makes k + 1, also after another text
 pub parts_none : {out : MutBor (List ℕ)} {at : ℕ} (f : ℕ → List ℕ) → Puts (parts_to 0 f) out at out at
 unfolding parts_to
@@ -129,7 +135,7 @@ parts_more f k = rw add-one
 
 pub parts_then : {out out' out'' : MutBor (List ℕ)} {at r r' : ℕ} (xs : List ℕ) (f : ℕ → List ℕ) (k j : ℕ) → k ≡ j + 1
     → Puts (xs ++ parts_to j f) out at out' r → Puts (f k) out' r out'' r' → Puts (xs ++ parts_to k f) out at out'' r'
-parts_then xs f k j e p q = rw (e, parts_more f j, ← append_assoc xs (parts_to j f) (f (j + 1))) (puts_then p (rw e at q))
+parts_then xs f k j e p q = rw (e, parts_more f j, ← append_assoc xs (parts_to j f) (f (j + 1))) (p then rw e at q)
 
 -- parts that are alike, one after another, are one text
 pub parts_same : (n : ℕ) (f g : ℕ → List ℕ) → ((k : ℕ) → 1 ≤ k → k ≤ n → f k ≡ g k) → parts_to n f ≡ parts_to n g
@@ -173,7 +179,9 @@ module _ (buf : List ℕ) {text none : List ℕ} {r : ℕ} (p : PutAt text [] 0 
       let fits : length text ≤ length buf = rw (still, text-length) at h in
       (rw text-length (sym (if-true _ _ _ (le-leb _ _ fits))), buffer-written fits (rw still at q))
 
--- either way a report tells the length, and that there is room for what was written
+pub ruleset report_put = (report-short)
+
+-- either way a report tells the length
 pub told-written : (text : List ℕ) (room r : ℕ) → Ok r ≡ report_from text room → r ≡ length text
 unfolding report_from
 told-written text room r e = grind (arith, nat_tests)
@@ -181,6 +189,8 @@ told-written text room r e = grind (arith, nat_tests)
 pub told-short : (text : List ℕ) (room : ℕ) (r : TooShort) → Err r ≡ report_from text room → r.needed ≡ length text
 unfolding report_from
 told-short text room r e = grind (arith, nat_tests)
+
+pub ruleset report_lengths = (told-written, told-short)
 
 -- with room for it there is no failing, and the text is what stands at the start
 pub never-short : (text : List ℕ) (room : ℕ) (r : TooShort) → length text ≤ room → Err r ≡ report_from text room → ⊥

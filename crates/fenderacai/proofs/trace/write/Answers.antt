@@ -12,7 +12,7 @@ use Rattle.bench.proofs.SetupLaws.{fresh-bench}
 use Rattle.schedule.specs.Prints.{buffer_from}
 use Rattle.schedule.specs.Private.{PutAt}
 use Rattle.std.proofs.Common.{rules}
-use Rattle.schedule.proofs.PrintLaws.{put-none, put_then, put-length, buffer-short, buffer-written}
+use Rattle.schedule.proofs.PrintLaws.{put-none, put_then, put_size, buffer-short, buffer-written}
 use Rattle.fenderacai.specs.Traces.{traced}
 use Rattle.fenderacai.proofs.RowLaws.{length-row}
 use Rattle.fenderacai.proofs.TraceLaws.{trace-played, length-traced, refused-traced, events-fit}
@@ -40,7 +40,7 @@ rows-requires c =
     let read = sym c.read.ensures.meaning ∙ c.in-Ok.is in
     record {
       events = omega (arith, ap length (part_to_end bs s.start), events-fit bs s read);
-      room = omega (arith, c.row.ensures.text.place, put-length c.row.ensures.text, length-row c.fresh-bench.result.bench 0, c.if-length-out.false);
+      room = omega (arith, put_size c.row.ensures.text, length-row c.fresh-bench.result.bench 0, c.if-length-out.false);
     }
 
 -- the row of the fresh bench and those of the events are put

@@ -10,7 +10,7 @@ use Rattle.signer.proofs.FromOneLaws.{nth_after}
 use Rattle.delivery.specs.Limits.{limits}
 use Rattle.bench.specs.Shows.{shown}
 use Rattle.schedule.specs.Prints.{event_line, event_line_bytes, board_line, board_line_bytes}
-use Rattle.schedule.proofs.PrintLaws.{puts_then, event-within, board-within, parts_none, parts_then}
+use Rattle.schedule.proofs.PrintLaws.{◌then◌, event-within, board-within, parts_none, parts_then}
 use Rattle.schedule.proofs.report.Report.lines.Goals as goal
 
 pub loop-k-init : goal.loop-k-init
@@ -38,7 +38,7 @@ loop-k-2-init c =
     record {
       more = omega arith;
       short = omega (arith, end);
-      put = puts_then (rw end at c.loop-k.invariant.put) (parts_none _);
+      put = (rw end at c.loop-k.invariant.put) then parts_none _;
     }
 
 pub loop-k-2-preserved : goal.loop-k-2-preserved
