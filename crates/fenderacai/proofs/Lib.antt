@@ -1,4 +1,3 @@
 -- Laws of rows (RowLaws) and of traces (TraceLaws).
 pub mod RowLaws
 pub mod TraceLaws
-pub mod Rules

@@ -1,13 +1,13 @@
 -- Laws of traces: rows put one after another, how many words they are, and those of a file that was read. Assumes nothing.
-use Prim.Native.Nat.{ℕ, ◌+◌, ◌-◌, ◌*◌, ◌<◌}
+use Prim.Native.Nat.{ℕ, ◌+◌, ◌-◌, ◌*◌, ◌≤◌, ◌<◌}
 use native.Mathlib.Omega.{arith}
 use mathlib.Core.Path.{◌≡◌, refl, sym, ap, ◌∙◌}
 use mathlib.Core.List.{List, [], ◌∷◌, ◌++◌}
 use lib.ListN.{length, drop, length-append}
 use lib.Seq.{sets}
-use Rattle.std.specs.Prelude.{Err}
+use Rattle.std.specs.Prelude.{Ok, Err}
 use Rattle.std.specs.List.{flat_map}
-use Rattle.delivery.specs.Limits.{Limits, limits}
+use Rattle.delivery.specs.Limits.{limits}
 use Rattle.bench.specs.Answers.{answer_number}
 use Rattle.bench.specs.Effects.{step_of}
 use Rattle.bench.specs.Events.{event_bytes, event_from}
@@ -23,7 +23,8 @@ use Rattle.schedule.specs.Readings.{schedule_of}
 use Rattle.schedule.specs.declared.fault.Fault.{Fault}
 use Rattle.schedule.specs.declared.file.Schedule.{Schedule}
 use Rattle.schedule.proofs.PrintLaws.{put_then}
-use Rattle.schedule.proofs.PlayLaws.{FileRead, file-fault, begun, events-read}
+use Rattle.schedule.proofs.FileLaws.{schedule-taken}
+use Rattle.schedule.proofs.PlayLaws.{file-fault, begun, events-part, start-taken}
 use Rattle.fenderacai.specs.Rows.{row}
 use Rattle.fenderacai.specs.Private.{row_size}
 use Rattle.fenderacai.specs.Traces.{rows_of, traced_from, traced}
@@ -70,32 +71,34 @@ rows_none c k bs buf next e =
     ap (λ (es : List Event). sets buf next (rows_of limits c es)) (ap (λ (m : ℕ). events_in m bs) e ∙ events-none bs)
     ∙ ap (sets buf next) (rows-nil c)
 
+pub ruleset rows_put = (length-events, length-rows, rows_none)
+
 -- a refused file has no trace
-pub refused-traced : (L : Limits) (bs : List ℕ) (w : Fault) → schedule_of L bs ≡ Err w → traced L bs ≡ []
+pub refused-traced : (bs : List ℕ) (w : Fault) → schedule_of limits bs ≡ Err w → traced limits bs ≡ []
 unfolding traced_from
-refused-traced L bs w t = ap (traced_from L) (file-fault L bs w t)
+refused-traced bs w t = ap (traced_from limits) (file-fault bs w t)
 
 -- A file that was read: the row of its fresh bench and those of its events are its trace.
-module _ (L : Limits) (bs : List ℕ) (s : Schedule) (h : FileRead L bs s) where
-  pub trace-played : row L 0 (fresh_bench L s.bus.n s.bus.marks)
-      ++ rows_of L (fresh_bench L s.bus.n s.bus.marks) (events_in s.count (drop s.start bs))
-      ≡ traced L bs
+module _ (bs : List ℕ) (s : Schedule) (t : schedule_of limits bs ≡ Ok s) where
+  pub trace-played :
+      let c = fresh_bench limits s.bus.n s.bus.marks in
+      row limits 0 c ++ rows_of limits c (events_in s.count (drop s.start bs)) ≡ traced limits bs
   unfolding traced_from
-  trace-played =
-      ap (λ (c : Bench). row L 0 c ++ rows_of L c (events_in s.count (drop s.start bs))) (begun L bs s h)
-      ∙ ap
-      (λ (es : List Event). row L 0 (first_bench L h.file) ++ rows_of L (first_bench L h.file) es)
-      (events-read L bs s h)
-      ∙ sym (ap (traced_from L) h.due)
+  trace-played = let p = schedule-taken bs s t in let r = p.1.0 in rw (p.1.1, events-part bs p.0 r, begun bs p.0 r, r.events, r.due)
 
-pub length-traced : (bs : List ℕ) (s : Schedule) → FileRead limits bs s
-    → length (traced limits bs) ≡ row_size limits + row_size limits * s.count
-length-traced bs s h =
-    let c = fresh_bench limits s.bus.n s.bus.marks in
-    let es = events_in s.count (drop s.start bs) in
-    ap length (sym (trace-played limits bs s h))
-    ∙ length-append (row limits 0 c) (rows_of limits c es)
-    ∙ omega (arith, length-row c 0, length-rows c es, length-events s.count (drop s.start bs))
+  pub length-traced : length (traced limits bs) ≡ row_size limits + row_size limits * s.count
+  length-traced =
+      let c = fresh_bench limits s.bus.n s.bus.marks in
+      let es = events_in s.count (drop s.start bs) in
+      ap length (sym trace-played)
+      ∙ length-append (row limits 0 c) (rows_of limits c es)
+      ∙ omega (arith, length-row c 0, length-rows c es, length-events s.count (drop s.start bs))
+
+  -- and the bytes of its events are there
+  pub events-fit : event_bytes * s.count ≤ length (drop s.start bs)
+  events-fit = let p = schedule-taken bs s t in let r = p.1.0 in rw (p.1.1, events-part bs p.0 r) (omega (arith, r.size))
+
+pub ruleset file_traced = (refused-traced, start-taken)
 
 -- what that is in words
 pub row-words : RowWords

@@ -18,7 +18,7 @@ use schedule::Report;
 // Writes what is printed of a file to the start of a buffer, and returns its length. The rest of the buffer stays; if it
 // is too short, all of it does.
 #[unsafe(no_mangle)]
-#[tactic(auto, using(crate::proofs::Rules::rules_fenderacai_report))]
+#[tactic(auto, using(schedule::proofs::PrintLaws::report_lengths))]
 pub extern "C" fn fenderacai_report(file: &[u8], out: &mut [u8]) -> usize
     ensures length { result ≡ length (printed limits file.now) }
     ensures buffer { out.new ≡ buffer_from (printed limits file.now) out.old }

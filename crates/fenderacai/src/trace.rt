@@ -15,7 +15,7 @@ use vote::number_of;
 impl Words<'_> {
     // Plays so many events, and puts a row for each. By index: `count` says how many are played of a part that may be longer,
     // so its pieces would be no plainer.
-    #[tactic(auto, using(crate::proofs::Rules::rules_row_words_rows))]
+    #[tactic(auto, using(crate::proofs::TraceLaws::rows_put))]
     fn rows(&mut self, bench: &mut Bench, count: usize, events: &[u8])
         requires events { event_bytes * count ≤ length events.now }
         requires room { self.old.length + row_size limits * count ≤ length self.old.out.now }
@@ -30,7 +30,7 @@ impl Words<'_> {
 
 // Writes the trace of a file to the start of a buffer, if there is room for it. The answer is a number in any case, since
 // that is what the C call hands back (the C interface).
-#[tactic(auto, using(crate::proofs::Rules::rules_trace_write))]
+#[tactic(auto, using(crate::proofs::TraceLaws::file_traced))]
 pub(crate) fn write(file: &[u8], out: &mut [u32]) -> usize
     ensures length { result ≡ length (traced limits file.now) }
     ensures buffer { out.new ≡ buffer_from (traced limits file.now) out.old }

@@ -25,4 +25,4 @@ whole-read (Some file) known old items limit s e l h P p =
     subst
     (λ (k : Option (List ℕ)). IfSome k P)
     s
-    (p file (ap (file_due limits) (h ∙ ap (λ (xs : List ℕ). xs ++ take limit file) e ∙ ap (λ (n : ℕ). take n file) l) ∙ enough-read limits file))
+    (p file (ap (file_due limits) (h ∙ ap (λ (xs : List ℕ). xs ++ take limit file) e ∙ ap (λ (n : ℕ). take n file) l) ∙ enough-read file))

@@ -4,7 +4,7 @@ use native.Mathlib.Omega.{arith}
 use mathlib.Core.Path.{◌≡◌, refl, sym, ap, subst⁻¹, ◌∙◌}
 use mathlib.Core.List.{List, [], ◌∷◌, ◌++◌, append_assoc}
 use lib.ListN.{length, get_or}
-use Rattle.std.specs.Prelude.{Ok, Err, codes}
+use Rattle.std.specs.Prelude.{codes}
 use Rattle.signer.specs.FromOne.{nth}
 use Rattle.signer.proofs.FromOneLaws.{within_low, nth-index}
 use Rattle.delivery.specs.Limits.{limits}
@@ -13,16 +13,14 @@ use Rattle.bench.specs.Shows.{letter_byte, shown}
 use Rattle.bench.specs.declared.show.Shown.{Shown}
 use Rattle.bench.proofs.SetupLaws.{board-made}
 use Rattle.bench.proofs.Demands.{agreed}
-use Rattle.schedule.specs.Files.{Reading, got, fault_number, file_number, Contents, first_bench, file_due, answer_of}
-use Rattle.schedule.specs.Layouts.{All, none, more, Holdable}
+use Rattle.schedule.specs.Files.{got, fault_number, Contents, first_bench, file_due}
+use Rattle.schedule.specs.Layouts.{All, none, more}
 use Rattle.schedule.specs.Prints.{decimal, line, space, parts_to, event_lines, board_line, board_lines, refused_line, printed_from, printed}
 use Rattle.schedule.specs.Stops.{Answered}
-use Rattle.schedule.specs.Claims.{ReadExactly, LookedAt, Plays, Reporting}
+use Rattle.schedule.specs.Claims.{Plays, Reporting}
 use Rattle.schedule.specs.declared.fault.Fault.{Fault}
 use Rattle.schedule.proofs.FaultLaws.{fault-row}
-use Rattle.schedule.proofs.LayoutLaws.{file-laid, file-read}
-use Rattle.schedule.proofs.StopLaws.{answered-number}
-use Rattle.schedule.proofs.PrefixLaws.{enough-read}
+use Rattle.schedule.proofs.FileLaws.{ReadAs, answered, known, file-got}
 use Rattle.schedule.proofs.PrintLaws.{decimal-one}
 
 -- a text ends with a line end
@@ -61,27 +59,12 @@ all-at P (x ∷ xs) (suc i) d (more p a) h = all-at P xs i d a (omega arith)
 all-nth : {A : Type 0} (P : A → Type 0) (xs : List A) (k : ℕ) (d : A) → All P xs → 1 ≤ k → k ≤ length xs → P (nth xs k d)
 all-nth P xs k d a l h = subst⁻¹ P (nth-index xs k d l) (all-at P xs (k - 1) d a (omega arith))
 
--- a file is read as exactly what its bytes mean
-pub read-exactly : ReadExactly
-read-exactly =
-    record {
-      exact = λ bs b f rest e. let l = file-laid limits bs f rest e in (l.0 b, l.1);
-      whole = file-read limits;
-    }
-
--- and no more of it is looked at than this
-pub looked-at : LookedAt
-looked-at = enough-read limits
-
 module _ (bs : List ℕ) where
-  holds : (f : Contents) (rest : List ℕ) → file_due limits bs ≡ got f rest → Holdable limits f
-  holds f rest e = (file-laid limits bs f rest e).1
-
   -- one that is taken gets its bench and plays as every list does
   plays : (f : Contents) (rest : List ℕ) → file_due limits bs ≡ got f rest → Plays f (printed limits bs)
   unfolding printed_from
   plays f rest e =
-      let h = holds f rest e in
+      let h = (file-got bs f rest e).holds in
       record {
         made = board-made limits (length f.marks) f.marks h.boards (λ k. all-nth _ f.marks k 0 h.marks);
         report = ap (printed_from limits) e;
@@ -90,25 +73,26 @@ module _ (bs : List ℕ) where
 
   -- and one that is refused prints its number
   refused : (m : ℕ) → 0 < m → Answered bs m → printed limits bs ≡ codes "refused " ++ (48 + m) ∷ codes "\n"
-  unfolding file_number answer_of printed_from
-  refused m l a = go (file_due limits bs) refl (answered-number bs m a)
+  unfolding printed_from
+  refused m l a = go m l (answered bs m a)
     where
-      go : (p : Reading Contents) → file_due limits bs ≡ p → file_number (answer_of p) ≡ m → printed_from limits p ≡ codes "refused " ++ (48 + m) ∷ codes "\n"
-      go (Ok (f, rest)) e n = absurd (omega (arith, n))
-      go (Err w) e n = refused-words w ∙ ap (λ (d : ℕ). codes "refused " ++ (48 + d) ∷ codes "\n") n
+      go : (m : ℕ) → 0 < m → ReadAs bs m → printed limits bs ≡ codes "refused " ++ (48 + m) ∷ codes "\n"
+      go zero l d = absurd (omega arith)
+      go (suc m) l (w, (d, n)) = rw d (rw n at (refused-words w))
 
   ended : Ended (printed limits bs)
   unfolding printed_from
-  ended = go (file_due limits bs) holds
+  ended = go (known bs)
     where
-      go : (p : Reading Contents) → ((f : Contents) (rest : List ℕ) → p ≡ got f rest → Holdable limits f) → Ended (printed_from limits p)
-      go (Ok (f, rest)) h =
+      go : (m : ℕ) × (Answered bs m × ReadAs bs m) → Ended (printed limits bs)
+      go (zero, (_, (f, r))) =
           let c = first_bench limits f in
-          ended-after
+          rw r.due
+          (ended-after
           (event_lines (length f.events) (answers_to limits c f.events))
           (board_lines limits (length f.marks) (after limits c f.events))
-          (parts-ended (length f.marks) _ (within_low limits.boards _ (h f rest refl).boards) (λ k. board-ended k (shown limits (after limits c f.events) k)))
-      go (Err w) h = (codes "refused " ++ (48 + fault_number w) ∷ [], refused-words w)
+          (parts-ended (length f.marks) _ (within_low limits.boards _ r.holds.boards) (λ k. board-ended k (shown limits (after limits c f.events) k))))
+      go (suc m, (_, (w, (d, _)))) = rw d (codes "refused " ++ (48 + fault_number w) ∷ [], refused-words w)
 
 pub reporting : Reporting
 reporting bs =

@@ -1,209 +1,219 @@
--- Laws of a whole file by its two sections, as the calls that read it make them out. Assumes nothing.
-use Prim.Native.Nat.{ℕ, suc, ◌+◌, ◌-◌, ◌*◌, ◌≤◌, ◌<◌}
+-- Laws of a whole file: what it is read as, by how it is answered, and that it is answered. Assumes nothing.
+use Prim.Native.Nat.{ℕ, zero, suc, ◌+◌, ◌-◌, ◌*◌, ◌≤◌, ◌<◌}
 use native.Mathlib.Omega.{arith}
-use mir.Syntax.{w8}
-use mir.Val.{Fits}
+use native.Mathlib.Decide.{dec_le, dec_lt}
 use mathlib.Core.Path.{◌≡◌, refl, sym, ap, subst, ◌∙◌}
+use mathlib.Core.Bool.{true, false}
 use mathlib.Core.List.{List, [], ◌∷◌, ◌++◌}
-use lib.ListN.{length, drop, get_or, length-append}
+use mathlib.Core.Logic.{◌⊎◌, inl, inr, ⊎_elim}
+use lib.Dec.{leb}
+use lib.ListN.{length, drop, length-drop, length-append}
 use lib.Seq.{drop-append_seam}
-use Rattle.std.specs.Prelude.{if◌then◌else◌, Result, Ok, Err}
-use Rattle.delivery.specs.Limits.{Limits}
+use Rattle.std.specs.Prelude.{if◌then◌else◌, Ok, Err}
+use Rattle.std.proofs.lemmas.Bool.Decides.{nat_tests}
+use Rattle.signer.proofs.FromOneLaws.{within_in, within-zero, within-above, within_low, within-high}
+use Rattle.delivery.specs.Limits.{limits}
 use Rattle.delivery.specs.Bus.{is_board}
-use Rattle.bench.specs.Events.{event_bytes}
+use Rattle.delivery.proofs.TestLaws.{decided}
+use Rattle.bench.specs.Events.{high_first, event_bytes}
+use Rattle.bench.specs.Setups.{is_mark}
+use Rattle.bench.specs.Runs.{events_in}
 use Rattle.bench.specs.declared.event.Event.{Event}
-use Rattle.schedule.specs.Files.{
-  Reading,
-  got,
-  fault,
-  next,
-  byte_due,
-  marks_due,
-  bus_due,
-  count_bytes,
-  section_due,
-  nothing_left,
-  Contents,
-  file_due,
-}
-use Rattle.schedule.specs.Layouts.{none, more, Bytes}
-use Rattle.schedule.specs.Readings.{bus_in, bus_from, bus_of, section_from, section_of, schedule_from, schedule_of}
-use Rattle.schedule.specs.declared.fault.Fault.{Fault}
-use Rattle.schedule.specs.declared.fault.Fault.TheVariants.{EndsEarly, NoBus, LeftOver}
+use Rattle.bench.proofs.AnswerLaws.{no_bus-is, no_mark-is}
+use Rattle.bench.proofs.RunLaws.{length-events}
+use Rattle.schedule.specs.Files.{Reading, got, fault, next, byte_due, bus_due, count_bytes, nothing_left, Contents, file_due, fault_number}
+use Rattle.schedule.specs.Layouts.{All, none, more, Holdable}
+use Rattle.schedule.specs.Readings.{bus_in, bus_from, bus_of, section_of, schedule_in, schedule_from, schedule_of}
+use Rattle.schedule.specs.Stops.{Mark, Marked, Answered, counted, taken, ends-at-once, ends-in-marks, ends-in-count, ends-in-events, no-bus, no-mark, too-many, left-over}
 use Rattle.schedule.specs.declared.bus.Bus.{Bus}
+use Rattle.schedule.specs.declared.fault.Fault.{Fault}
+use Rattle.schedule.specs.declared.fault.Fault.TheVariants.{EndsEarly, NoBus, NoMark, TooMany, LeftOver}
 use Rattle.schedule.specs.declared.file.Schedule.{Schedule}
 use Rattle.schedule.specs.declared.section.Section.{Section}
-use Rattle.schedule.proofs.ReadingLaws.{next-got, next-fault}
-use Rattle.schedule.proofs.LayoutLaws.{bytes_rest, bus-laid, length-events-laid, section_laid, section-laid}
+use Rattle.schedule.proofs.SectionLaws.{mark-is, marks-cut, marks-wrong, marks-full, Split, cut, wrong, full, split, count_at, tested, section-due, section-read}
 
--- what a slice holds is bytes
-pub bytes_of : (bs : List ℕ) → ((i : ℕ) → Fits w8 (get_or bs i 0)) → Bytes bs
-bytes_of [] h = none
-bytes_of (b ∷ bs) h = more (omega (arith, h 0)) (bytes_of bs (λ i. h (suc i)))
+-- a file of these marks and events
+abbrev pub file : List ℕ → List Event → Contents
+file ms es = record { marks = ms; events = es }
 
--- the first section begins with n, or there is nothing
-pub bus-none : (L : Limits) (bs : List ℕ) → length bs ≡ 0 → bus_due L bs ≡ fault EndsEarly
-unfolding bus_due byte_due next
-bus-none L [] h = refl
-bus-none L (b ∷ bs) h = absurd (omega arith)
-
-pub bus-some : (L : Limits) (bs : List ℕ) → 0 < length bs
-    → bus_due L bs ≡ (if is_board L (get_or bs 0 0) then marks_due (get_or bs 0 0) (drop 1 bs) else fault NoBus)
-unfolding bus_due byte_due next
-bus-some L [] h = absurd (omega arith)
-bus-some L (b ∷ bs) h = refl
-
--- the first section, where it was read: its marks, and what follows them
-pub record BusRead (L : Limits) (bs : List ℕ) (b : Bus) : Type 0 where
-  pub marks : List ℕ
-  pub rest : List ℕ
-  pub due : bus_due L bs ≡ got marks rest
-  pub read : b ≡ bus_in L marks
-  pub size : length bs ≡ 1 + b.n + length rest
-  pub part : drop (1 + b.n) bs ≡ rest
-  pub bytes : Bytes rest
-
-pub bus-taken : (L : Limits) (bs : List ℕ) (b : Bus) → Bytes bs → bus_of L bs ≡ Ok b → BusRead L bs b
-unfolding bus_from
-bus-taken L bs b u t = go (bus_due L bs) refl t
-  where
-    go : (p : Reading (List ℕ)) → bus_due L bs ≡ p → bus_from L p ≡ Ok b → BusRead L bs b
-    go (Err w) g a = let z : ◌≡◌ {A = ℕ} 0 1 = cc in absurd (omega arith)
-    go (Ok (ms, cs)) g a =
-        let whole : bs ≡ length ms ∷ ms ++ cs = (bus-laid L bs ms cs g).0 u in
-        let is : b ≡ bus_in L ms = cc in
-        let n : 1 + b.n ≡ length (length ms ∷ ms) = ap (λ (x : Bus). 1 + x.n) is ∙ omega arith in
-        record {
-          marks = ms;
-          rest = cs;
-          due = g;
-          read = is;
-          size = omega (arith, ap length whole, length-append ms cs);
-          part = ap (λ (m : ℕ). drop m bs) n
-              ∙ ap (drop (length (length ms ∷ ms))) whole
-              ∙ drop-append_seam (length ms ∷ ms) cs;
-          bytes = bytes_rest (length ms ∷ ms) cs (subst Bytes whole u);
-        }
-
-pub bus-refused : (L : Limits) (bs : List ℕ) (w : Fault) → bus_of L bs ≡ Err w → bus_due L bs ≡ fault w
-unfolding bus_from
-bus-refused L bs w t = go (bus_due L bs) t
-  where
-    go : (p : Reading (List ℕ)) → bus_from L p ≡ Err w → p ≡ fault w
-    go (Ok (ms, cs)) a = let z : ◌≡◌ {A = ℕ} 0 1 = cc in absurd (omega arith)
-    go (Err v) a = let same : v ≡ w = cc in ap fault same
-
--- the second, where it was read: its events, and what follows them
-pub record SectionRead (bs : List ℕ) (k : ℕ) : Type 0 where
-  pub events : List Event
-  pub rest : List ℕ
-  pub due : section_due bs ≡ got events rest
-  pub count : length events ≡ k
-  pub size : length bs ≡ count_bytes + event_bytes * k + length rest
-
-pub section-taken : (bs : List ℕ) (s : Section) → Bytes bs → section_of bs ≡ Ok s → SectionRead bs s.count
-unfolding section_from
-section-taken bs s u t = go (section_due bs) refl t
-  where
-    go : (p : Reading (List Event)) → section_due bs ≡ p → section_from p ≡ Ok s → SectionRead bs s.count
-    go (Err w) g a = let z : ◌≡◌ {A = ℕ} 0 1 = cc in absurd (omega arith)
-    go (Ok (es, cs)) g a =
-        let whole : bs ≡ section_laid es ++ cs = (section-laid bs es cs g).0 u in
-        let is : s ≡ record { count = length es } = cc in
-        let count : length es ≡ s.count = sym (ap (λ (x : Section). x.count) is) in
-        record {
-          events = es;
-          rest = cs;
-          due = g;
-          count = count;
-          size = omega (arith, ap length whole, length-append (section_laid es) cs, length-events-laid es);
-        }
-
-pub section-refused : (bs : List ℕ) (w : Fault) → section_of bs ≡ Err w → section_due bs ≡ fault w
-unfolding section_from
-section-refused bs w t = go (section_due bs) t
-  where
-    go : (p : Reading (List Event)) → section_from p ≡ Err w → p ≡ fault w
-    go (Ok (es, cs)) a = let z : ◌≡◌ {A = ℕ} 0 1 = cc in absurd (omega arith)
-    go (Err v) a = let same : v ≡ w = cc in ap fault same
-
--- nothing may follow the last event
-left_over : (f : Contents) (bs : List ℕ) → 0 < length bs → nothing_left f bs ≡ fault LeftOver
+left-due : (f : Contents) (bs : List ℕ) → nothing_left f bs ≡ (if leb (length bs) 0 then got f [] else fault LeftOver)
 unfolding nothing_left
-left_over f [] h = absurd (omega arith)
-left_over f (b ∷ bs) h = refl
+left-due f [] = grind (arith, nat_tests)
+left-due f (b ∷ bs) = grind (arith, nat_tests)
 
-left-none : (f : Contents) (bs : List ℕ) → length bs ≡ 0 → nothing_left f bs ≡ got f []
-unfolding nothing_left
-left-none f [] h = refl
-left-none f (b ∷ bs) h = absurd (omega arith)
+-- after the marks, a file is what the tests of its second section say, and then of its end
+abbrev pub back_tested : List ℕ → List ℕ → Reading Contents
+back_tested ms bs =
+    let events = drop count_bytes bs in
+    let k = count_at bs in
+    tested fault bs (if leb (length events) (event_bytes * k) then got (file ms (events_in k events)) [] else fault LeftOver)
 
--- a fault of the first section is the file's, and so is one of the second
-pub file-front : (L : Limits) (bs : List ℕ) (w : Fault) → bus_due L bs ≡ fault w → file_due L bs ≡ fault w
-unfolding file_due
-file-front L bs w e = next-fault _ (bus_due L bs) w e
+module _ (n : ℕ) (ms : List ℕ) (f : Marked n ms) (bs : List ℕ) where
+  bus-full : bus_due limits (n ∷ ms ++ bs) ≡ got ms bs
+  unfolding bus_due byte_due next
+  bus-full = rw (within_in limits.boards n f.front.one f.front.seven, ← f.full, marks-full ms bs f.front.marks)
 
-module _ (L : Limits) (bs ms cs : List ℕ) (e : bus_due L bs ≡ got ms cs) where
-  pub file-back : (w : Fault) → section_due cs ≡ fault w → file_due L bs ≡ fault w
-  unfolding file_due
-  file-back w g = next-got _ (bus_due L bs) ms cs e ∙ next-fault _ (section_due cs) w g
+  file-due : file_due limits (n ∷ ms ++ bs) ≡ back_tested ms bs
+  unfolding file_due next
+  file-due =
+      let events = drop count_bytes bs in
+      let b = bus-full in
+      let s = section-due bs in
+      let l = left-due (file ms (events_in (count_at bs) events)) (drop (event_bytes * count_at bs) events) in
+      grind (arith, nat_tests, length-drop)
 
-  module _ (es : List Event) (ds : List ℕ) (g : section_due cs ≡ got es ds) where
-    ends : file_due L bs ≡ nothing_left (record { marks = ms; events = es }) ds
-    unfolding file_due
-    ends = next-got _ (bus_due L bs) ms cs e ∙ next-got _ (section_due cs) es ds g
+-- all marks are marks
+pub marks-are : (ms : List ℕ) → All Mark ms → All (λ m. is_mark m ≡ true) ms
+marks-are [] none = none
+marks-are (m ∷ ms) (more a all) = more (mark-is m a) (marks-are ms all)
 
-    -- then bytes may be left over, or none
-    pub file-over : 0 < length ds → file_due L bs ≡ fault LeftOver
-    file-over h = ends ∙ left_over (record { marks = ms; events = es }) ds h
+-- A file that is taken: it is read as f, which it can hold, and ends with the bytes of f's events.
+pub record FileRead (bs : List ℕ) (f : Contents) : Type 0 where
+  pub high : ℕ
+  pub low : ℕ
+  pub rest : List ℕ
+  pub due : file_due limits bs ≡ got f []
+  pub holds : Holdable limits f
+  pub whole : bs ≡ length f.marks ∷ f.marks ++ high ∷ low ∷ rest
+  pub count : high_first high low ≡ length f.events
+  pub size : length rest ≡ event_bytes * length f.events
+  pub events : events_in (length f.events) rest ≡ f.events
 
-    pub file-there : length ds ≡ 0 → file_due L bs ≡ got (record { marks = ms; events = es }) []
-    file-there h = ends ∙ left-none (record { marks = ms; events = es }) ds h
+module _ (n h l : ℕ) (ms bs : List ℕ) (f : Marked n ms) (few : counted h l ≤ 4096) (size : length bs ≡ 6 * counted h l) where
+  pub file-taken : FileRead (n ∷ ms ++ h ∷ l ∷ bs) (file ms (events_in (high_first h l) bs))
+  file-taken =
+      record {
+        high = h;
+        low = l;
+        rest = bs;
+        due = let d = file-due n ms f (h ∷ l ∷ bs) in grind (arith, nat_tests);
+        holds = record { boards = within_in limits.boards (length ms) (omega (arith, f)) (omega (arith, f)); marks = marks-are ms f.front.marks; few = omega (arith, length-events (high_first h l) bs) };
+        whole = ap (λ (k : ℕ). k ∷ ms ++ h ∷ l ∷ bs) (sym f.full);
+        count = sym (length-events (high_first h l) bs);
+        size = omega (arith, length-events (high_first h l) bs);
+        events = ap (λ (k : ℕ). events_in k bs) (length-events (high_first h l) bs);
+      }
 
--- a file of two sections that were read
-abbrev pub made : Bus → ℕ → Result Schedule Fault
-made b k = Ok (record { bus = b; count = k; start = 1 + b.n + count_bytes })
+-- What a file is read as, by how it is answered: as what it holds, or as the fault of this number.
+abbrev pub ReadAs : List ℕ → ℕ → Type 0
+ReadAs bs zero = (f : Contents) × FileRead bs f
+ReadAs bs (suc m) = (w : Fault) × ((file_due limits bs ≡ fault w) × (fault_number w ≡ suc m))
 
--- So it is with the calls that read a file: a fault of the first section is the file's,
-pub schedule-front : (L : Limits) (bs : List ℕ) (w : Fault) → bus_of L bs ≡ Err w → schedule_of L bs ≡ Err w
+pub answered : (bs : List ℕ) (m : ℕ) → Answered bs m → ReadAs bs m
+unfolding fault_number file_due bus_due byte_due next
+answered bs m (taken n h l ms cs f t g) = (file ms (events_in (high_first h l) cs), file-taken n h l ms cs f t g)
+answered bs m ends-at-once = (EndsEarly, (refl, refl))
+answered bs m (ends-in-marks n ms f h) = (EndsEarly, (rw (within_in limits.boards n f.one f.seven, marks-cut n ms f.marks h), refl))
+answered bs m (ends-in-count n ms cs f h) = (EndsEarly, (let d = file-due n ms f cs in grind (arith, nat_tests), refl))
+answered bs m (ends-in-events n h l ms cs f t g) = (EndsEarly, (let d = file-due n ms f (h ∷ l ∷ cs) in grind (arith, nat_tests), refl))
+answered bs m (no-bus n cs o) = (NoBus, (rw (⊎_elim (within-zero limits.boards n) (within-above limits.boards n) o), no_bus-is))
+answered bs m (no-mark n k ms cs f h w) = (NoMark, (rw (within_in limits.boards n f.one f.seven, marks-wrong n k ms cs f.marks h w), no_mark-is))
+answered bs m (too-many n h l ms cs f t) = (TooMany, (let d = file-due n ms f (h ∷ l ∷ cs) in grind (arith, nat_tests), refl))
+answered bs m (left-over n h l ms cs f t g) = (LeftOver, (let d = file-due n ms f (h ∷ l ∷ cs) in grind (arith, nat_tests), refl))
+
+-- and every file is one of these, by the first test that it fails
+abbrev Found : List ℕ → Type 0
+Found bs = (m : ℕ) × Answered bs m
+
+found-back : (n : ℕ) (ms cs : List ℕ) → Marked n ms → Found (n ∷ ms ++ cs)
+found-back n ms [] f = (1, ends-in-count n ms [] f (omega arith))
+found-back n ms (h ∷ []) f = (1, ends-in-count n ms (h ∷ []) f (omega arith))
+found-back n ms (h ∷ l ∷ bs) f = go (dec_le (counted h l) 4096) (dec_lt (length bs) (6 * counted h l)) (dec_lt (6 * counted h l) (length bs))
+  where
+    go : Dec (counted h l ≤ 4096) → Dec (length bs < 6 * counted h l) → Dec (6 * counted h l < length bs) → Found (n ∷ ms ++ h ∷ l ∷ bs)
+    go (no t) _ _ = (4, too-many n h l ms bs f (omega arith))
+    go (yes t) (yes g) _ = (1, ends-in-events n h l ms bs f t g)
+    go (yes t) (no g) (yes k) = (5, left-over n h l ms bs f t k)
+    go (yes t) (no g) (no k) = (0, taken n h l ms bs f t (omega arith))
+
+found : (bs : List ℕ) → Found bs
+found [] = (1, ends-at-once)
+found (n ∷ bs) = go (dec_le 1 n) (dec_le n 7) (split n bs)
+  where
+    go : {cs : List ℕ} → Dec (1 ≤ n) → Dec (n ≤ 7) → Split n cs → Found (n ∷ cs)
+    go {cs} (no l) _ _ = (2, no-bus n cs (inl (omega arith)))
+    go {cs} (yes l) (no h) _ = (2, no-bus n cs (inr (omega arith)))
+    go (yes l) (yes h) (cut ms a f) = (1, ends-in-marks n ms (record { one = l; seven = h; marks = a }) f)
+    go (yes l) (yes h) (wrong m ms cs a f w) = (3, no-mark n m ms cs (record { one = l; seven = h; marks = a }) f w)
+    go (yes l) (yes h) (full ms cs a f) = found-back n ms cs (record { front = record { one = l; seven = h; marks = a }; full = f })
+
+-- so of every file it is known how it is answered, and what it is read as
+pub known : (bs : List ℕ) → (m : ℕ) × (Answered bs m × ReadAs bs m)
+known bs = let f = found bs in (f.0, (f.1, answered bs f.0 f.1))
+
+-- what was read of one that is taken, from what it is read as, and from what the call that reads hands back
+pub file-got : (bs : List ℕ) (f : Contents) (rest : List ℕ) → file_due limits bs ≡ got f rest → FileRead bs f
+file-got bs f rest e = go (known bs)
+  where
+    go : (m : ℕ) × (Answered bs m × ReadAs bs m) → FileRead bs f
+    go (zero, (_, (g, r))) = let due = r.due in let same : g ≡ f = grind (arith, e, due) in subst (FileRead bs) same r
+    go (suc m, (_, (w, (d, _)))) = absurd (grind (arith, e, d))
+
+pub schedule-taken : (bs : List ℕ) (s : Schedule) → schedule_of limits bs ≡ Ok s
+    → (f : Contents) × (FileRead bs f × (s ≡ schedule_in limits f))
 unfolding schedule_from
-schedule-front L bs w e = ap (schedule_from L) (file-front L bs w (bus-refused L bs w e))
+schedule-taken bs s e = go (known bs)
+  where
+    go : (m : ℕ) × (Answered bs m × ReadAs bs m) → (f : Contents) × (FileRead bs f × (s ≡ schedule_in limits f))
+    go (zero, (_, (f, r))) = let due = r.due in (f, (r, grind (arith, e, due)))
+    go (suc m, (_, (w, (d, _)))) = absurd (grind (arith, e, d))
 
--- and where there is a first section, the second begins within the file;
-module _ (L : Limits) (bs : List ℕ) (b : Bus) (u : (i : ℕ) → Fits w8 (get_or bs i 0)) (e : bus_of L bs ≡ Ok b) where
-  front : BusRead L bs b
-  front = bus-taken L bs b (bytes_of bs u) e
+-- The first section, where the call that reads it hands it back: its marks, and that the second begins within the file.
+pub record BusRead (bs : List ℕ) (b : Bus) : Type 0 where
+  pub marks : List ℕ
+  pub is : b ≡ bus_in limits marks
+  pub within : 1 + b.n ≤ length bs
+  pub due : file_due limits bs ≡ back_tested marks (drop (1 + b.n) bs)
 
+pub bus-taken : (bs : List ℕ) (b : Bus) → bus_of limits bs ≡ Ok b → BusRead bs b
+unfolding bus_from bus_due byte_due next
+bus-taken [] b e = absurd (grind (arith, e))
+bus-taken (n ∷ bs) b e = go (split n bs) (decided (is_board limits n)) e
+  where
+    go : {cs : List ℕ} → Split n cs → (is_board limits n ≡ true) ⊎ (is_board limits n ≡ false) → bus_of limits (n ∷ cs) ≡ Ok b → BusRead (n ∷ cs) b
+    go s (inr f) e = absurd (grind (arith, e, f))
+    go (cut ms a h) (inl t) e = let d = marks-cut n ms a h in absurd (grind (arith, e, t, d))
+    go (wrong m ms cs a h w) (inl t) e = let d = marks-wrong n m ms cs a h w in absurd (grind (arith, e, t, d))
+    go (full ms cs a l) (inl t) e =
+        let f : Marked n ms = record { front = record { one = within_low limits.boards n t; seven = within-high limits.boards n t; marks = a }; full = l } in
+        let d = bus-full n ms f cs in
+        let is : b ≡ bus_in limits ms = grind (arith, e, d) in
+        let far : 1 + b.n ≡ length (n ∷ ms) = ap (λ (x : Bus). 1 + x.n) is ∙ omega arith in
+        let part : drop (1 + b.n) (n ∷ ms ++ cs) ≡ cs = ap (λ (k : ℕ). drop k (n ∷ ms ++ cs)) far ∙ drop-append_seam (n ∷ ms) cs in
+        record { marks = ms; is = is; within = omega (arith, far, length-append ms cs); due = rw part (file-due n ms f cs) }
+
+pub schedule-front : (bs : List ℕ) (w : Fault) → bus_of limits bs ≡ Err w → schedule_of limits bs ≡ Err w
+unfolding bus_from schedule_from file_due next
+schedule-front bs w e = grind (arith, e)
+
+module _ (bs : List ℕ) (b : Bus) (e : bus_of limits bs ≡ Ok b) where
   pub section-within : 1 + b.n ≤ length bs
-  section-within = omega (arith, front.size)
+  section-within = (bus-taken bs b e).within
 
-  -- a fault of it is the file's;
-  pub schedule-back : (w : Fault) → section_of (drop (1 + b.n) bs) ≡ Err w → schedule_of L bs ≡ Err w
+  -- a fault of the second is the file's;
+  pub schedule-back : (w : Fault) → section_of (drop (1 + b.n) bs) ≡ Err w → schedule_of limits bs ≡ Err w
   unfolding schedule_from
   schedule-back w g =
-      let due = section-refused front.rest w (ap section_of (sym front.part) ∙ g) in
-      ap (schedule_from L) (file-back L bs front.marks front.rest front.due w due)
+      let due = (bus-taken bs b e).due in grind (arith, nat_tests, section-read, g)
 
-  -- where there is a second section too, its events begin within the file;
+  -- and where there is a second, its events begin within the file, and end before it or with it
   module _ (s : Section) (g : section_of (drop (1 + b.n) bs) ≡ Ok s) where
-    back : SectionRead front.rest s.count
-    back = section-taken front.rest s front.bytes (ap section_of (sym front.part) ∙ g)
-
     pub events-within : 1 + b.n + count_bytes ≤ length bs
-    events-within = omega (arith, front.size, back.size)
+    events-within = let r = bus-taken bs b e in let within = r.within in grind (arith, nat_tests, length-drop, section-read)
 
-    -- and bytes are left over, or none
-    pub schedule-over : event_bytes * s.count < length bs - (1 + b.n + count_bytes) → schedule_of L bs ≡ Err LeftOver
+    pub schedule-over : event_bytes * s.count < length bs - (1 + b.n + count_bytes) → schedule_of limits bs ≡ Err LeftOver
     unfolding schedule_from
     schedule-over h =
-        let over : 0 < length back.rest = omega (arith, front.size, back.size, h) in
-        ap (schedule_from L) (file-over L bs front.marks front.rest front.due back.events back.rest back.due over)
+        let r = bus-taken bs b e in let due = r.due in let within = r.within in grind (arith, nat_tests, length-drop, section-read)
 
     pub schedule-there : length bs - (1 + b.n + count_bytes) ≤ event_bytes * s.count
-        → schedule_of L bs ≡ made b s.count
+        → schedule_of limits bs ≡ Ok (record { bus = b; count = s.count; start = 1 + b.n + count_bytes })
     unfolding schedule_from
     schedule-there h =
-        let none : length back.rest ≡ 0 = omega (arith, front.size, back.size, h) in
-        ap (schedule_from L) (file-there L bs front.marks front.rest front.due back.events back.rest back.due none)
-        ∙ ap (made (bus_in L front.marks)) back.count
-        ∙ sym (ap (λ (x : Bus). made x s.count) front.read)
+        let r = bus-taken bs b e in
+        let is = r.is in
+        let due = r.due in
+        let within = r.within in
+        grind (arith, nat_tests, length-drop, length-events, section-read)
+
+pub ruleset file_tests = (section-within)

@@ -1,20 +1,23 @@
--- Laws of each part of a file by tests on its bytes, as the calls that read make them, and of what those hand back.
+-- Laws of the two sections of a file by their bytes: the marks, one by one, and the tests of the count and the events.
 -- Assumes nothing.
 use Prim.Native.Nat.{ℕ, zero, suc, ◌+◌, ◌-◌, ◌*◌, ◌≤◌, ◌<◌}
 use native.Mathlib.Omega.{arith}
-use native.Mathlib.Numerals.{add-one}
 use native.Mathlib.Decide.{dec_le}
-use borrow.Author.Tests.{le-leb, lt-leb}
-use mathlib.Core.Path.{◌≡◌, refl, sym, ap, ◌∙◌, fun_ext}
+use borrow.Author.Rules.{part_to_end}
+use borrow.Author.Tests.{lt-leb, leb-true, leb-false}
+use mathlib.Core.Path.{◌≡◌, refl, sym, ap, ◌∙◌}
 use mathlib.Core.Bool.{true, false}
-use mathlib.Core.List.{List, [], ◌∷◌, ◌++◌, append_assoc, append-nil}
+use mathlib.Core.List.{List, [], ◌∷◌, ◌++◌, append_assoc}
 use lib.Dec.{leb}
-use lib.ListN.{length, take, drop, get_or, set, replicate, length-drop, drop_of_length-le}
-use lib.Seq.{length-take-le, take-suc, drop-cons, drop-drop, set_at}
-use Rattle.std.specs.Prelude.{if◌then◌else◌, Result, Ok, Err}
-use Rattle.signer.proofs.ConditionalLaws.{if-true, if-false}
-use Rattle.delivery.specs.Limits.{Limits}
-use Rattle.bench.specs.Events.{high_first, event_bytes, event_from}
+use lib.ListN.{length, take, drop, get_or, set, replicate, length-drop, take-append-drop}
+use lib.Seq.{drop-drop}
+use Rattle.std.specs.Prelude.{if◌then◌else◌, Ok, Err}
+use Rattle.std.proofs.lemmas.Bool.Decides.{nat_tests}
+use Rattle.std.proofs.lemmas.List.{length-take-le, take_more, drop_more, take_all, set_at}
+use Rattle.signer.proofs.FromOneLaws.{within-high}
+use Rattle.delivery.specs.Limits.{limits}
+use Rattle.delivery.specs.Bus.{is_board}
+use Rattle.bench.specs.Events.{high_first, event_bytes}
 use Rattle.bench.specs.Setups.{is_mark}
 use Rattle.bench.specs.Runs.{events_in}
 use Rattle.bench.specs.declared.event.Event.{Event}
@@ -28,6 +31,7 @@ use Rattle.schedule.specs.Files.{
   many_due,
   mark_due,
   marks_due,
+  bus_due,
   count_bytes,
   most_events,
   count_due,
@@ -35,169 +39,137 @@ use Rattle.schedule.specs.Files.{
   events_due,
   section_due,
 }
-use Rattle.schedule.specs.Readings.{padded, section_from, section_of}
+use Rattle.schedule.specs.Layouts.{All, none, more}
+use Rattle.schedule.specs.Readings.{padded, bus_from, bus_of, section_from, section_of}
+use Rattle.schedule.specs.Stops.{Mark, sound, faulty}
 use Rattle.schedule.specs.declared.fault.Fault.{Fault}
-use Rattle.schedule.specs.declared.fault.Fault.TheVariants.{EndsEarly, NoMark, TooMany}
-use Rattle.schedule.specs.declared.section.Section.{Section}
-use Rattle.schedule.proofs.ReadingLaws.{next-got, next-fault, next-next, next-same, many-goes, many-stops}
-use Rattle.schedule.proofs.LayoutLaws.{mark-undoes}
+use Rattle.schedule.specs.declared.fault.Fault.TheVariants.{EndsEarly, NoBus, NoMark, TooMany}
 
--- reading the marks after the first k of n, with those k put in front
-abbrev pub marks_left : ℕ → ℕ → List ℕ → Reading (List ℕ)
-marks_left n k bs = next (marks_due (n - k) (drop k bs)) (λ ms rest. got (take k bs ++ ms) rest)
+-- a byte that is a mark
+pub mark-is : (m : ℕ) → Mark m → is_mark m ≡ true
+mark-is m sound = refl
+mark-is m faulty = refl
 
-pub marks-start : (n : ℕ) (bs : List ℕ) → marks_due n bs ≡ marks_left n 0 bs
-marks-start n bs =
-    let e : n ≡ n - 0 = omega arith in
-    ap (λ (m : ℕ). marks_due m bs) e ∙ sym (next-same (marks_due (n - 0) bs))
+pub mark-of : (m : ℕ) → m ≤ 1 → Mark m
+mark-of zero h = sound
+mark-of (suc zero) h = faulty
+mark-of (suc (suc m)) h = absurd (omega arith)
 
-module _ (n k : ℕ) (bs : List ℕ) (h : k < n) where
-  one_more : n - k ≡ suc (n - (k + 1))
-  one_more = omega arith
+-- Marks are read one by one: of n, those that are there may be too few, or be followed by a byte that is none, or be all.
+pub marks-cut : (n : ℕ) (ms : List ℕ) → All Mark ms → length ms < n → marks_due n ms ≡ fault EndsEarly
+unfolding many_due mark_due byte_due next
+marks-cut zero ms a h = absurd (omega arith)
+marks-cut (suc n) [] none h = refl
+marks-cut (suc n) (m ∷ ms) (more a all) h = rw (mark-is m a, marks-cut n ms all (omega arith))
 
-  -- the mark that is due is a fault
-  left-stops : (w : Fault) → mark_due (drop k bs) ≡ fault w → marks_left n k bs ≡ fault w
-  left-stops w e =
-      next-fault
-      _
-      _
-      w
-      (ap (λ (m : ℕ). marks_due m (drop k bs)) one_more ∙ many-stops mark_due (n - (k + 1)) (drop k bs) w e)
+pub marks-wrong : (n m : ℕ) (ms bs : List ℕ) → All Mark ms → length ms < n → 1 < m → marks_due n (ms ++ m ∷ bs) ≡ fault NoMark
+unfolding many_due mark_due byte_due next
+marks-wrong zero m ms bs a h w = absurd (omega arith)
+marks-wrong (suc n) m [] bs none h w = rw (lt-leb m 1 w)
+marks-wrong (suc n) m (k ∷ ms) bs (more a all) h w = rw (mark-is k a, marks-wrong n m ms bs all (omega arith) w)
 
-  -- the bytes end before it
-  pub marks-cut : length bs ≤ k → marks_left n k bs ≡ fault EndsEarly
-  unfolding mark_due byte_due next
-  marks-cut l = left-stops EndsEarly (ap mark_due (drop_of_length-le bs l))
+pub marks-full : (ms bs : List ℕ) → All Mark ms → marks_due (length ms) (ms ++ bs) ≡ got ms bs
+unfolding many_due mark_due byte_due next
+marks-full [] bs none = refl
+marks-full (m ∷ ms) bs (more a all) = rw (mark-is m a, marks-full ms bs all)
+
+pub data Split (n : ℕ) : List ℕ → Type 0 where
+  cut : (ms : List ℕ) → All Mark ms → length ms < n → Split n ms
+  wrong : (m : ℕ) (ms bs : List ℕ) → All Mark ms → length ms < n → 1 < m → Split n (ms ++ m ∷ bs)
+  full : (ms bs : List ℕ) → All Mark ms → length ms ≡ n → Split n (ms ++ bs)
+
+pub split : (n : ℕ) (bs : List ℕ) → Split n bs
+split zero bs = full [] bs none refl
+split (suc n) [] = cut [] none (omega arith)
+split (suc n) (m ∷ bs) = go (dec_le m 1) (split n bs)
+  where
+    go : {cs : List ℕ} → Dec (m ≤ 1) → Split n cs → Split (suc n) (m ∷ cs)
+    go {cs} (no h) s = wrong m [] cs none (omega arith) (omega arith)
+    go (yes h) (cut ms a l) = cut (m ∷ ms) (more (mark-of m h) a) (omega arith)
+    go (yes h) (wrong k ms bs a l w) = wrong k (m ∷ ms) bs (more (mark-of m h) a) (omega arith) w
+    go (yes h) (full ms bs a l) = full (m ∷ ms) bs (more (mark-of m h) a) (omega arith)
+
+-- the same as the call that reads the marks has looked at the first k
+all-after : (ms : List ℕ) (m : ℕ) → All Mark ms → Mark m → All Mark (ms ++ m ∷ [])
+all-after [] m none a = more a none
+all-after (x ∷ ms) m (more b all) a = more b (all-after ms m all a)
+
+module _ (n k : ℕ) (bs : List ℕ) (a : All Mark (take k bs)) where
+  pub marks-short : length bs ≤ k → k < n → marks_due n bs ≡ fault EndsEarly
+  marks-short l h = marks-cut n bs (rw (take_all k bs l) at a) (omega arith)
+
+  pub marks-there : k ≤ length bs → k ≡ n → marks_due n bs ≡ got (take k bs) (drop k bs)
+  marks-there l e =
+      ap (λ (cs : List ℕ). marks_due n cs) (sym (take-append-drop k bs))
+      ∙ ap (λ (m : ℕ). marks_due m (take k bs ++ drop k bs)) (sym e ∙ sym (length-take-le k bs l))
+      ∙ marks-full (take k bs) (drop k bs) a
 
   module _ (l : k < length bs) where
-    here : drop k bs ≡ get_or bs k 0 ∷ drop (k + 1) bs
-    here = rw (add-one, drop-cons bs k 0)
+    pub marks-none : is_mark (get_or bs k 0) ≡ false → k < n → marks_due n bs ≡ fault NoMark
+    marks-none t h =
+        ap (λ (cs : List ℕ). marks_due n cs) (sym (take-append-drop k bs) ∙ ap (λ (cs : List ℕ). take k bs ++ cs) (drop_more bs k 0 l))
+        ∙ marks-wrong n (get_or bs k 0) (take k bs) (drop (k + 1) bs) a (omega (arith, length-take-le k bs)) (leb-false _ _ t)
 
-    -- or it is no mark
-    pub marks-wrong : is_mark (get_or bs k 0) ≡ false → marks_left n k bs ≡ fault NoMark
-    unfolding mark_due byte_due next
-    marks-wrong t = left-stops NoMark (ap mark_due here ∙ if-false (is_mark (get_or bs k 0)) _ _ t)
+    pub marks-next : is_mark (get_or bs k 0) ≡ true → All Mark (take (k + 1) bs)
+    marks-next t = rw (take_more bs k 0 l) (all-after (take k bs) (get_or bs k 0) a (mark-of (get_or bs k 0) (leb-true _ _ t)))
 
-    -- or it is one, and the others are left
-    pub marks-next : is_mark (get_or bs k 0) ≡ true → marks_left n k bs ≡ marks_left n (k + 1) bs
-    unfolding next
-    marks-next t =
-        ap
-        (λ (p : Reading (List ℕ)). next p (λ ms rest. got (take k bs ++ ms) rest))
-        (ap (λ (m : ℕ). marks_due m (drop k bs)) one_more
-        ∙ many-goes mark_due (n - (k + 1)) (drop k bs) (get_or bs k 0) (drop (k + 1) bs) (ap mark_due here ∙ mark-undoes.is_read (get_or bs k 0) (drop (k + 1) bs) t))
-        ∙ next-next (marks_due (n - (k + 1)) (drop (k + 1) bs)) _ _
-        ∙ ap (next (marks_due (n - (k + 1)) (drop (k + 1) bs))) (fun_ext (λ ms. fun_ext (λ rest. ap (λ (xs : List ℕ). got xs rest) (joined ms))))
-      where
-        joined : (ms : List ℕ) → take k bs ++ get_or bs k 0 ∷ ms ≡ take (k + 1) bs ++ ms
-        joined ms = sym (ap (λ (j : ℕ). take j bs ++ ms) (add-one k) ∙ ap (λ (xs : List ℕ). xs ++ ms) (take-suc bs k 0 l) ∙ append_assoc (take k bs) (get_or bs k 0 ∷ []) ms)
+    pub padded-next : k < limits.boards → set (padded limits (take k bs)) k (get_or bs k 0) ≡ padded limits (take (k + 1) bs)
+    padded-next f =
+        let left : limits.boards - length (take k bs) ≡ suc (limits.boards - (k + 1)) = omega (arith, length-take-le k bs) in
+        let right : limits.boards - length (take (k + 1) bs) ≡ limits.boards - (k + 1) = omega (arith, length-take-le (k + 1) bs) in
+        rw (left, right, take_more bs k 0 l, append_assoc) (set_at (take k bs) 0 (replicate (limits.boards - (k + 1)) 0) (get_or bs k 0) k (length-take-le k bs (omega arith)))
 
-    -- the marks that were read, and 0 for the rest, with this one more
-    pub padded-next : (L : Limits) → k < L.boards → set (padded L (take k bs)) k (get_or bs k 0) ≡ padded L (take (k + 1) bs)
-    padded-next L f =
-        let size : length (take k bs) ≡ k = length-take-le k bs (omega arith) in
-        let size' : length (take (k + 1) bs) ≡ k + 1 = length-take-le (k + 1) bs (omega arith) in
-        let left : L.boards - length (take k bs) ≡ suc (L.boards - length (take (k + 1) bs)) = omega arith in
-        let rest : List ℕ = replicate (L.boards - length (take (k + 1) bs)) 0 in
-        ap (λ (m : ℕ). set (take k bs ++ replicate m 0) k (get_or bs k 0)) left
-        ∙ set_at (take k bs) 0 rest (get_or bs k 0) k size
-        ∙ sym (append_assoc (take k bs) (get_or bs k 0 ∷ []) rest)
-        ∙ ap (λ (xs : List ℕ). xs ++ rest) (sym (ap (λ (j : ℕ). take j bs) (add-one k) ∙ take-suc bs k 0 l))
+pub ruleset marks_told = (none, marks-short, marks-none, marks-there, length-take-le)
 
--- once all were read, none is left
-pub marks-end : (n : ℕ) (bs : List ℕ) → marks_left n n bs ≡ got (take n bs) (drop n bs)
-unfolding many_due next
-marks-end n bs =
-    let e : n - n ≡ 0 = omega arith in
-    ap (λ (m : ℕ). next (marks_due m (drop n bs)) (λ ms rest. got (take n bs ++ ms) rest)) e
-    ∙ ap (λ (ms : List ℕ). got ms (drop n bs)) (append-nil (take n bs))
+-- the first section by the tests of the call that reads it
+pub bus-read : (bs : List ℕ) → bus_of limits bs
+    ≡ (if leb 1 (length bs)
+    then (if is_board limits (get_or bs 0 0) then bus_from limits (marks_due (get_or bs 0 0) (take (length bs - 1) (drop 1 bs))) else Err NoBus)
+    else Err EndsEarly)
+unfolding bus_due byte_due next bus_from
+bus-read [] = grind (arith, nat_tests)
+bus-read (b ∷ bs) = let e = part_to_end (b ∷ bs) 1 in grind (arith, nat_tests)
 
--- as many events as are asked for, if their bytes are there
-pub events-there : (k : ℕ) (bs : List ℕ) → event_bytes * k ≤ length bs → events_due k bs ≡ got (events_in k bs) (drop (event_bytes * k) bs)
-unfolding many_due event_due
-events-there zero bs h = ap (λ (es : List Event). got es bs) (sym (events-none bs))
-events-there (suc k) bs h =
-    let rest = drop event_bytes bs in
-    let enough : event_bytes ≤ length bs = omega arith in
-    let others : event_bytes * k ≤ length rest = omega (arith, length-drop event_bytes bs) in
+pub ruleset bus_tests = (bus-read, nat_tests, within-high)
+
+-- so many events are there, or they end early
+abbrev events_by : ℕ → List ℕ → Reading (List Event)
+events_by k bs = if leb (event_bytes * k) (length bs) then got (events_in k bs) (drop (event_bytes * k) bs) else fault EndsEarly
+
+events-next : (k : ℕ) (bs : List ℕ) → events_due k (drop event_bytes bs) ≡ events_by k (drop event_bytes bs)
+    → events_due (suc k) bs ≡ events_by (suc k) bs
+unfolding many_due event_due next
+events-next k bs e =
     let far : event_bytes + event_bytes * k ≡ event_bytes * suc k = omega arith in
-    many-goes event_due k bs (event_from bs) rest (if-true (leb event_bytes (length bs)) _ _ (le-leb event_bytes (length bs) enough))
-    ∙ next-got _ _ (events_in k rest) (drop (event_bytes * k) rest) (events-there k rest others)
-    ∙ ap (λ (es : List Event). got es (drop (event_bytes * k) rest)) (sym (events-more k bs))
-    ∙ ap (λ (cs : List ℕ). got (events_in (suc k) bs) cs) (drop-drop (event_bytes * k) event_bytes bs ∙ ap (λ (m : ℕ). drop m bs) far)
+    let d = drop-drop (event_bytes * k) event_bytes bs in
+    grind (arith, nat_tests, length-drop, events-more)
 
-pub events-cut : (k : ℕ) (bs : List ℕ) → length bs < event_bytes * k → events_due k bs ≡ fault EndsEarly
-unfolding event_due
-events-cut zero bs h = absurd (omega arith)
-events-cut (suc k) bs h = go (dec_le event_bytes (length bs)) (λ l. events-cut k (drop event_bytes bs) l)
-  where
-    go : Dec (event_bytes ≤ length bs) → (length (drop event_bytes bs) < event_bytes * k → events_due k (drop event_bytes bs) ≡ fault EndsEarly)
-        → events_due (suc k) bs ≡ fault EndsEarly
-    go (yes l) ih =
-        many-goes event_due k bs (event_from bs) (drop event_bytes bs) (if-true (leb event_bytes (length bs)) _ _ (le-leb event_bytes (length bs) l))
-        ∙ next-fault _ _ EndsEarly (ih (omega (arith, length-drop event_bytes bs)))
-    go (no l) ih =
-        let short : length bs < event_bytes = omega arith in
-        many-stops event_due k bs EndsEarly (if-false (leb event_bytes (length bs)) _ _ (lt-leb event_bytes (length bs) short))
+events-due : (k : ℕ) (bs : List ℕ) → events_due k bs ≡ events_by k bs
+unfolding many_due
+events-due zero bs = grind (arith, nat_tests, events-none)
+events-due (suc k) bs = events-next k bs (events-due k (drop event_bytes bs))
 
-abbrev section_counts : ℕ → Result Section Fault
-section_counts k = Ok (record { count = k })
-
--- the count at the front of some bytes
+-- A section is tested in this order: is there a count, is it within the most, and are so many events there.
 abbrev pub count_at : List ℕ → ℕ
 count_at bs = high_first (get_or bs 0 0) (get_or bs 1 0)
 
-count_cut : (bs : List ℕ) → length bs < count_bytes → count_due bs ≡ fault EndsEarly
-unfolding count_due byte_due next
-count_cut [] h = refl
-count_cut (b ∷ []) h = refl
-count_cut (b ∷ c ∷ bs) h = absurd (omega arith)
+abbrev pub tested : {A : Type 0} → (Fault → A) → List ℕ → A → A
+tested err bs x =
+    if leb count_bytes (length bs)
+    then (if leb (count_at bs) most_events
+    then (if leb (event_bytes * count_at bs) (length (drop count_bytes bs)) then x else err EndsEarly)
+    else err TooMany)
+    else err EndsEarly
 
-count-there : (bs : List ℕ) → count_bytes ≤ length bs
-    → count_due bs ≡ (if leb (count_at bs) most_events then got (count_at bs) (drop count_bytes bs) else fault TooMany)
-unfolding count_due byte_due next
-count-there [] h = absurd (omega arith)
-count-there (b ∷ []) h = absurd (omega arith)
-count-there (b ∷ c ∷ bs) h = refl
+pub section-due : (bs : List ℕ) → section_due bs
+    ≡ tested fault bs (got (events_in (count_at bs) (drop count_bytes bs)) (drop (event_bytes * count_at bs) (drop count_bytes bs)))
+unfolding section_due count_due byte_due next
+section-due [] = grind (arith, nat_tests)
+section-due (b ∷ []) = grind (arith, nat_tests)
+section-due (h ∷ l ∷ bs) = let e = events-due (high_first h l) bs in grind (arith, nat_tests)
 
--- The section of events, by the tests that `Section::read` makes, where it has a count:
-module _ (bs : List ℕ) (h : count_bytes ≤ length bs) where
-  -- it counts too many;
-  pub section-many : most_events < count_at bs → section_of bs ≡ Err TooMany
-  unfolding section_due section_from
-  section-many t =
-      ap
-      section_from
-      (next-fault
-      events_due
-      (count_due bs)
-      TooMany
-      (count-there bs h ∙ if-false (leb (count_at bs) most_events) _ _ (lt-leb (count_at bs) most_events t)))
+pub section-read : (bs : List ℕ) → section_of bs ≡ tested Err bs (Ok (record { count = count_at bs }))
+unfolding section_from
+section-read bs = grind (arith, nat_tests, section-due, length-events)
 
-  module _ (t : count_at bs ≤ most_events) where
-    pub few : section_due bs ≡ events_due (count_at bs) (drop count_bytes bs)
-    unfolding section_due
-    few =
-        next-got
-        events_due
-        (count_due bs)
-        (count_at bs)
-        (drop count_bytes bs)
-        (count-there bs h ∙ if-true (leb (count_at bs) most_events) _ _ (le-leb (count_at bs) most_events t))
-
-    -- it is too short for its events;
-    pub section-short : length bs < count_bytes + event_bytes * count_at bs → section_of bs ≡ Err EndsEarly
-    unfolding section_from
-    section-short l = ap section_from (few ∙ events-cut (count_at bs) (drop count_bytes bs) (omega (arith, length-drop count_bytes bs)))
-
-    -- or they are there
-    pub section-there : count_bytes + event_bytes * count_at bs ≤ length bs → section_of bs ≡ Ok (record { count = count_at bs })
-    unfolding section_from
-    section-there l =
-        ap section_from (few ∙ events-there (count_at bs) (drop count_bytes bs) (omega (arith, length-drop count_bytes bs)))
-        ∙ ap (λ (k : ℕ). section_counts k) (length-events (count_at bs) (drop count_bytes bs))
-
--- or it is too short for one
-pub section-cut : (bs : List ℕ) → length bs < count_bytes → section_of bs ≡ Err EndsEarly
-unfolding section_due section_from
-section-cut bs h = ap section_from (next-fault events_due (count_due bs) EndsEarly (count_cut bs h))
+pub ruleset section_tests = (section-read, nat_tests, length-drop)

@@ -18,7 +18,7 @@ pub struct Bus {
 impl Bus {
     // Reads n marks, each as it comes. By index: the first fault that is met is the answer, so a missing mark is told in its
     // turn, and of what an adapter of `iter_mut` has written the check knows nothing.
-    #[tactic(auto, using(crate::proofs::Rules::rules_bus_bus_read_marks), unfolding(crate::specs::Readings::bus_from))]
+    #[tactic(auto, using(crate::proofs::SectionLaws::marks_told), unfolding(crate::specs::Readings::bus_from))]
     fn read_marks(n: u8, bytes: &[u8]) -> Result<Bus, Fault>
         requires { n ≤ limits.boards }
         ensures { result ≡ bus_from limits (marks_due n bytes.now) }
@@ -35,7 +35,7 @@ impl Bus {
     }
 
     // Reads n and the marks of the n boards. What follows them is not looked at.
-    #[tactic(auto, using(crate::proofs::Rules::rules_bus_bus_read), unfolding(crate::specs::Readings::bus_from))]
+    #[tactic(auto, using(crate::proofs::SectionLaws::bus_tests), unfolding(crate::specs::Readings::bus_from))]
     pub fn read(file: &[u8]) -> Result<Bus, Fault>
         ensures { result ≡ bus_of limits file.now }
     {

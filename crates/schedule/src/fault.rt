@@ -17,7 +17,7 @@ pub enum Fault {
 impl Numbered for Fault {
     ghost number_in_table = { fault_number };
 
-    #[tactic(auto, using(crate::proofs::Rules::rules_fault), unfolding(crate::specs::Files::fault_number))]
+    #[tactic(auto, using(crate::proofs::FaultLaws::bench_faults), unfolding(crate::specs::Files::fault_number))]
     fn number(self) -> u8 {
         self as u8
     }

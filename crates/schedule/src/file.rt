@@ -26,7 +26,7 @@ impl Schedule {
         + Section::MOST_EVENTS as usize * Event::BYTES;
 
     // Reads a whole file: n and the marks, then the section of events, which has to end with the file.
-    #[tactic(auto, using(crate::proofs::Rules::rules_file_schedule_read))]
+    #[tactic(auto, using(crate::proofs::FileLaws::file_tests))]
     pub fn read(file: &[u8]) -> Result<Schedule, Fault>
         ensures meaning { result ≡ schedule_of limits file.now }
         ensures taken { IfOk result (λ read. Answered file.now 0) }

@@ -40,7 +40,7 @@ impl Report {
         + Bench::BOARDS as usize * Report::BOARD_LINE_BYTES;
 
     // Reads a file and plays it.
-    #[tactic(auto, using(crate::proofs::Rules::rules_report_report_of))]
+    #[tactic(auto, using(crate::proofs::PlayLaws::file_played))]
     fn of(file: &[u8]) -> Result<Report, Fault>
         ensures text { report_text limits result ≡ printed limits file.now }
         ensures within { IfOk result (IsWithin limits) }
@@ -57,7 +57,7 @@ impl Report {
     }
 
     // The lines of the events, and then those of the boards.
-    #[tactic(auto, using(crate::proofs::Rules::rules_report_report_lines))]
+    #[tactic(auto, using(crate::proofs::PrintLaws::line_bounds))]
     fn lines(&self, text: &mut Text)
         requires own { IsWithin limits self.now }
         requires start { text.old.length ≡ 0 }
@@ -73,7 +73,7 @@ impl Report {
     }
 
     // What is printed: the lines of a file that was played, or the one line of a file that is refused.
-    #[tactic(auto, using(crate::proofs::Rules::rules_report_report_put))]
+    #[tactic(auto, using(crate::proofs::PrintLaws::line_bounds))]
     fn put(report: &Result<Report, Fault>, out: &mut [u8]) -> usize
         requires { IfOk report.now (IsWithin limits) }
         ensures within { result ≤ longest_print limits }
@@ -90,7 +90,7 @@ impl Report {
     // Reads a file, plays it, and writes to the start of a buffer what is to be printed of it. The rest of the buffer stays;
     // if it is too short, all of it does. No report is longer than `Report::LONGEST`. The text is put into an empty part
     // first, which tells its length.
-    #[tactic(auto, using(crate::proofs::Rules::rules_report_report_write))]
+    #[tactic(auto, using(crate::proofs::PrintLaws::report_put))]
     pub fn write(file: &[u8], out: &mut [u8]) -> Result<usize, TooShort>
         ensures answer { result ≡ report_from (printed limits file.now) (length out.old) }
         ensures buffer { out.new ≡ buffer_from (printed limits file.now) out.old }

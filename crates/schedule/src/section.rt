@@ -18,7 +18,7 @@ impl Section {
     pub const MOST_EVENTS: u16 = 4096;
 
     // Reads the count, and looks whether its events are there. What follows them is not looked at.
-    #[tactic(auto, using(crate::proofs::Rules::rules_section_section_read))]
+    #[tactic(auto, using(crate::proofs::SectionLaws::section_tests))]
     pub fn read(bytes: &[u8]) -> Result<Section, Fault>
         ensures { result ≡ section_of bytes.now }
     {

@@ -31,7 +31,7 @@ impl Text<'_> {
     }
 
     // A number in decimal.
-    #[tactic(auto, using(crate::proofs::Rules::rules_text_number))]
+    #[tactic(auto, using(crate::proofs::PrintLaws::std_decimal))]
     pub(crate) fn number(&mut self, m: u16)
         requires { self.old.length + length (decimal m) ≤ longest_print limits }
         ensures { Puts (decimal m) self.old.out self.old.length self.new.out self.new.length }

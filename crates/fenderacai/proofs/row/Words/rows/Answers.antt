@@ -14,7 +14,7 @@ use Rattle.bench.specs.declared.bench.Bench.{Bench}
 use Rattle.bench.specs.declared.event.Event.{Event}
 use Rattle.bench.proofs.AnswerLaws.{event_played}
 use Rattle.schedule.specs.Private.{PutAt}
-use Rattle.schedule.proofs.PrintLaws.{put-length}
+use Rattle.schedule.proofs.PrintLaws.{put_size}
 use Rattle.fenderacai.specs.Rows.{row}
 use Rattle.fenderacai.specs.Traces.{rows_of}
 use Rattle.fenderacai.proofs.RowLaws.{length-row}
@@ -41,6 +41,6 @@ loop-k-preserved c =
           ∙ ap (λ (m : ℕ). sets c.row.new.self.out.now c.row.new.self.length (rows_of limits (step_of limits l.bench e).bench (events_in (n - (l.k + 1)) (drop m bs)))) far
           ∙ rows_next l.bench n l.k at bs c.loop-k-test.true put
           ∙ l.invariant.rest;
-      long = put-length put ∙ l.invariant.long;
+      long = (put_size put).1 ∙ l.invariant.long;
       same = c.row.ensures.same ∙ l.invariant.same;
     }

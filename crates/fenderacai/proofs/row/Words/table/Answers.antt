@@ -4,7 +4,7 @@ use native.Mathlib.Omega.{arith}
 use mathlib.Core.Path.{◌≡◌, refl, ◌∙◌}
 use mathlib.Core.List.{[], ◌∷◌}
 use Rattle.delivery.specs.Limits.{limits}
-use Rattle.schedule.proofs.PrintLaws.{put-length, puts_then, parts_none, parts_more, parts_then}
+use Rattle.schedule.proofs.PrintLaws.{put_size, ◌then◌, parts_none, parts_more, parts_then}
 use Rattle.fenderacai.specs.Rows.{words_to, table_words}
 use Rattle.fenderacai.proofs.row.Words.table.Goals as goal
 
@@ -16,7 +16,7 @@ loop-i-init g c =
     record {
       place = omega (arith, c.loop-k.invariant.place);
       long = c.loop-k.invariant.long;
-      words = λ f t. puts_then (c.loop-k.invariant.words f t) (parts_none _);
+      words = λ f t. c.loop-k.invariant.words f t then parts_none _;
     }
 
 pub loop-i-preserved : goal.loop-i-preserved
@@ -25,7 +25,7 @@ loop-i-preserved g c =
     let i = c.loop-i.i in
     record {
       place = omega (arith, c.loop-i.invariant.place, c.list.ensures.text.place);
-      long = put-length c.list.ensures.text ∙ c.loop-i.invariant.long;
+      long = (put_size c.list.ensures.text).1 ∙ c.loop-i.invariant.long;
       words =
           λ f t.
           let told : c.word.result ≡ f (k + 1) (i + 1) = t (k + 1) (i + 1) c.word.result (omega arith) (omega arith) c.word.ensures in

@@ -16,7 +16,7 @@ use Rattle.schedule.specs.Stops.{Answered}
 use Rattle.schedule.specs.declared.file.Schedule.{Schedule}
 use Rattle.schedule.specs.declared.section.Section.{Section}
 use Rattle.schedule.proofs.StopLaws.{read-answered, read-fault}
-use Rattle.schedule.proofs.FileLaws.{schedule-front, section-within, schedule-back, events-within, schedule-over, schedule-there}
+use Rattle.schedule.proofs.FileLaws.{schedule-front, schedule-back, events-within, schedule-over, schedule-there}
 use Rattle.schedule.proofs.file.Schedule.read.Goals as goal
 
 -- what is read of the part of the file after the first section
@@ -40,24 +40,21 @@ told bs {r} e = let a = read-answered bs r e in record { meaning = e; taken = a.
 pub returns-in_err-bus : goal.returns-in_err-bus
 returns-in_err-bus c =
     let failed : c.from_residual.result ≡ Err c.in_err-bus.field-0.0 = search rules in
-    told c.args.file.now (failed ∙ sym (schedule-front limits c.args.file.now _ (sym c.read.ensures ∙ c.in_err-bus.was)))
-
-pub slice_bounds-read-count : goal.slice_bounds-read-count
-slice_bounds-read-count c = section-within limits _ _ c.type_inv.file (sym c.read.ensures ∙ c.in_ok-bus.was)
+    told c.args.file.now (failed ∙ sym (schedule-front c.args.file.now _ (sym c.read.ensures ∙ c.in_err-bus.was)))
 
 pub returns-in_err-count : goal.returns-in_err-count
 returns-in_err-count c =
     let failed : c.from_residual-in_err-count.result ≡ Err c.in_err-count.field-0.0 = search rules in
-    told c.args.file.now (failed ∙ sym (schedule-back limits c.args.file.now _ c.type_inv.file (sym c.read.ensures ∙ c.in_ok-bus.was) _ (rest-read c.args.file.now _ c.read-2.ensures c.in_err-count.was)))
+    told c.args.file.now (failed ∙ sym (schedule-back c.args.file.now _ (sym c.read.ensures ∙ c.in_ok-bus.was) _ (rest-read c.args.file.now _ c.read-2.ensures c.in_err-count.was)))
 
 pub overflow_sub-file : goal.overflow_sub-file
 overflow_sub-file c =
-    events-within limits _ _ c.type_inv.file (sym c.read.ensures ∙ c.in_ok-bus.was) _ (rest-read c.args.file.now _ c.read-2.ensures c.in_ok-count.was)
+    events-within _ _ (sym c.read.ensures ∙ c.in_ok-bus.was) _ (rest-read c.args.file.now _ c.read-2.ensures c.in_ok-count.was)
 
 pub returns-then-file-start : goal.returns-then-file-start
 returns-then-file-start c =
-    told c.args.file.now (sym (schedule-over limits _ _ c.type_inv.file (sym c.read.ensures ∙ c.in_ok-bus.was) _ (rest-read c.args.file.now _ c.read-2.ensures c.in_ok-count.was) (omega (arith, c.if-file-start.true))))
+    told c.args.file.now (sym (schedule-over _ _ (sym c.read.ensures ∙ c.in_ok-bus.was) _ (rest-read c.args.file.now _ c.read-2.ensures c.in_ok-count.was) (omega (arith, c.if-file-start.true))))
 
 pub returns : goal.returns
 returns c =
-    told c.args.file.now (sym (schedule-there limits _ _ c.type_inv.file (sym c.read.ensures ∙ c.in_ok-bus.was) _ (rest-read c.args.file.now _ c.read-2.ensures c.in_ok-count.was) (omega (arith, c.if-file-start.false))))
+    told c.args.file.now (sym (schedule-there _ _ (sym c.read.ensures ∙ c.in_ok-bus.was) _ (rest-read c.args.file.now _ c.read-2.ensures c.in_ok-count.was) (omega (arith, c.if-file-start.false))))

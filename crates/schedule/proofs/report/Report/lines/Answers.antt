@@ -1,7 +1,8 @@
 -- `Report::lines` meets its contract. Assumes nothing.
 use Prim.Native.Nat.{◌+◌, ◌-◌, ◌≤◌, ◌<◌}
 use native.Mathlib.Omega.{arith}
-use mathlib.Core.Path.{◌≡◌, sym, ◌∙◌}
+use mathlib.Core.Path.{◌≡◌, refl, sym, ◌∙◌}
+use mathlib.Core.List.{[]}
 use Rattle.std.proofs.lemmas.List.{get_or-take, length-take}
 use lib.ListN.{length, take, get_or}
 use Rattle.signer.specs.FromOne.{nth}
@@ -9,7 +10,7 @@ use Rattle.signer.proofs.FromOneLaws.{nth_after}
 use Rattle.delivery.specs.Limits.{limits}
 use Rattle.bench.specs.Shows.{shown}
 use Rattle.schedule.specs.Prints.{event_line, event_line_bytes, board_line, board_line_bytes}
-use Rattle.schedule.proofs.PrintLaws.{puts_then, event-within, board-within, parts_none, parts_next, parts_then}
+use Rattle.schedule.proofs.PrintLaws.{◌then◌, event-within, board-within, parts_none, parts_then}
 use Rattle.schedule.proofs.report.Report.lines.Goals as goal
 
 pub loop-k-init : goal.loop-k-init
@@ -26,7 +27,7 @@ loop-k-preserved c =
     let e : nth run.answers (k + 1) 0 ≡ answer = nth_after run.answers k 0 ∙ sym (get_or-take run.count run.answers k 0 there) in
     record {
       short = omega (arith, within);
-      put = parts_next (λ j. event_line j (nth run.answers j 0)) k c.loop-k.invariant.put (rw e c.event_line.ensures);
+      put = parts_then [] (λ j. event_line j (nth run.answers j 0)) (k + 1) k refl c.loop-k.invariant.put (rw e c.event_line.ensures);
     }
 
 pub loop-k-2-init : goal.loop-k-2-init
@@ -37,7 +38,7 @@ loop-k-2-init c =
     record {
       more = omega arith;
       short = omega (arith, end);
-      put = puts_then (rw end at c.loop-k.invariant.put) (parts_none _);
+      put = (rw end at c.loop-k.invariant.put) then parts_none _;
     }
 
 pub loop-k-2-preserved : goal.loop-k-2-preserved

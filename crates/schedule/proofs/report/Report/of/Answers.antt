@@ -1,41 +1,34 @@
 -- `Report::of` meets its contract: what the player gives is what the file prints. Assumes nothing.
-use Prim.Native.Nat.{ℕ, ◌*◌, ◌≤◌}
+use Prim.Native.Nat.{◌≤◌}
 use native.Mathlib.Omega.{arith}
 use borrow.Author.Rules.{part_to_end}
-use mathlib.Core.List.{List, ◌++◌}
-use lib.ListN.{length, take, drop, replicate}
-use mathlib.Core.Path.{◌≡◌, sym, ap, ◌∙◌}
+use lib.ListN.{replicate}
+use mathlib.Core.Path.{◌≡◌, sym, ◌∙◌}
 use Rattle.std.proofs.Common.{rules}
 use Rattle.std.specs.Prelude.{Err}
-use Rattle.delivery.specs.Limits.{limits}
-use Rattle.bench.specs.Events.{event_bytes}
-use Rattle.bench.specs.Runs.{answers_after}
-use Rattle.bench.specs.declared.play.Played.{Played}
 use Rattle.schedule.specs.Files.{most_events}
-use Rattle.schedule.specs.Prints.{event_lines, board_lines}
-use Rattle.schedule.specs.Private.{report_text}
-use Rattle.schedule.proofs.PlayLaws.{file-taken, file-fault, refused-print, few-boards, few-events, print-played}
+use Rattle.schedule.specs.Prints.{printed_from}
+use Rattle.schedule.proofs.FileLaws.{schedule-taken}
+use Rattle.schedule.proofs.PlayLaws.{file-fault, few-boards, print-taken}
 use Rattle.schedule.proofs.report.Report.of.Goals as goal
 
 pub returns-in_err-bus-clause-text : goal.returns-in_err-bus-clause-text
+unfolding printed_from
 returns-in_err-bus-clause-text c =
-    let bs = c.args.file.now in
     let failed : c.from_residual.result ≡ Err c.in_err-bus.field-0.0 = search rules in
-    ap (report_text limits) failed ∙ sym (refused-print limits bs _ (file-fault limits bs _ (sym c.read.ensures.meaning ∙ c.in_err-bus.was)))
+    let due = file-fault c.args.file.now _ (sym c.read.ensures.meaning ∙ c.in_err-bus.was) in
+    rw (failed, due)
 
 pub returns-clause-text : goal.returns-clause-text
 returns-clause-text c =
     let bs = c.args.file.now in
     let s = c.in_ok-bus.field-0 in
-    let read = file-taken limits bs s c.type_inv.file (sym c.read.ensures.meaning ∙ c.in_ok-bus.was) in
-    let none : List ℕ = replicate most_events 0 in
-    let room : s.count ≤ length none = omega (arith, few-events limits bs s read) in
-    let text : List ℕ = event_lines s.count (answers_after limits s.bus.n s.bus.marks (take (event_bytes * s.count) (drop s.start bs)) none) in
-    ap (λ (xs : List ℕ). event_lines s.count xs ++ board_lines limits s.bus.n c.play-played.result.bench) (rw (part_to_end bs s.start) at c.play-played.ensures.answers)
-    ∙ ap (λ (x : Played). text ++ board_lines limits s.bus.n x.bench) (rw (part_to_end bs s.start) at c.play-played.ensures.played)
-    ∙ print-played limits bs s read none room
+    let read = sym c.read.ensures.meaning ∙ c.in_ok-bus.was in
+    let t = schedule-taken bs s read in
+    let few : s.count ≤ most_events = rw t.1.1 t.1.0.holds.few in
+    rw (c.play-played.ensures.answers, c.play-played.ensures.played, part_to_end bs s.start) (print-taken bs s read (replicate most_events 0) (omega (arith, few)))
 
 pub returns-clause-within : goal.returns-clause-within
 returns-clause-within c =
-    let read = file-taken limits _ _ c.type_inv.file (sym c.read.ensures.meaning ∙ c.in_ok-bus.was) in
-    (few-events limits _ _ read, few-boards limits _ _ read)
+    let t = schedule-taken c.args.file.now c.in_ok-bus.field-0 (sym c.read.ensures.meaning ∙ c.in_ok-bus.was) in
+    rw t.1.1 (t.1.0.holds.few, few-boards _ _ t.1.0)
