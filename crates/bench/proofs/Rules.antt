@@ -1,5 +1,4 @@
 -- For each function, the laws that its proof goes by.
-use Rattle.bench.proofs.AnswerLaws.{step-answer, step-done, step-kept}
 use Rattle.bench.proofs.AppliesLaws.{answering}
 use Rattle.bench.proofs.ExampleLaws.{examples}
 use Rattle.bench.proofs.RunLaws.{after_next, after_none, answers-none, answers_next, history-written, length-answers, length-events, length-written, played-fits, played-room, sets-written}
@@ -10,7 +9,6 @@ use Rattle.delivery.proofs.SetLaws.{set-leave, set-none, set-take}
 use Rattle.delivery.proofs.TestLaws.{and-no-left, and-no-right, and-yes-left, neg-in, neg-no, or-no-left, or-no-right, or_left, or_no, or_right}
 use Rattle.std.proofs.lemmas.List.{get_or-take}
 use Rattle.signer.proofs.FromOneLaws.{get_none, get_some, nth_after, nth-any, nth-none, set_nth-index, set_nth-none, within-high, within-out, within_low}
-use Rattle.vote.proofs.TurnLaws.{ended-is, not_started-is, waiting-is}
 
 -- tests joined
 pub ruleset rules_tests = (and-yes-left, and-no-left, and-no-right, or_left, or_right, or_no, or-no-left, or-no-right, neg-no, neg-in, not_same)
@@ -34,11 +32,7 @@ pub ruleset rules_bench_bench_play = (played-room)
 
 pub ruleset rules_bench_bench_run = (length-events, length-answers, after_none, answers-none, sets-written)
 
-pub ruleset rules_bench_bench_step = (step-done, step-kept, step-answer)
-
 pub ruleset rules_fresh_sound_of = (set-none, set-take, set-leave, marks-none, marks-next, nth_after, get_or-take)
-
-pub ruleset rules_turn_numbers = (not_started-is, ended-is, waiting-is)
 
 -- what src/claims claims
 pub ruleset event_claims = (answering)
