@@ -1,7 +1,6 @@
 -- For each function, the laws that its proof goes by.
 use Rattle.bench.proofs.AppliesLaws.{answering}
 use Rattle.bench.proofs.ExampleLaws.{examples}
-use Rattle.bench.proofs.RunLaws.{after_next, after_none, answers-none, answers_next, history-written, length-answers, length-events, length-written, played-fits, played-room, sets-written}
 use Rattle.bench.proofs.SetupLaws.{limits-ground, marks-none, marks-next, marks-fail}
 use Rattle.bench.proofs.TableLaws.{kind-passes, kind-stops, check-event, check-kind, check-state, check-turn, kind-known, not_same}
 use Rattle.bench.proofs.TurnLaws.{saying-board, turn-made, wait-neither, wait-refuses, wait-waits}
@@ -27,10 +26,6 @@ pub ruleset rules_places = (set_nth-none, set_nth-index, nth-any, within-high, w
 pub ruleset rules_bench_bench_next_move = (wait-waits, wait-refuses, wait-neither)
 
 pub ruleset rules_bench_bench_turn = (saying-board, turn-made)
-
-pub ruleset rules_bench_bench_play = (played-room)
-
-pub ruleset rules_bench_bench_run = (length-events, length-answers, after_none, answers-none, sets-written)
 
 pub ruleset rules_fresh_sound_of = (set-none, set-take, set-leave, marks-none, marks-next, nth_after, get_or-take)
 
