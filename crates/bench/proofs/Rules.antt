@@ -1,6 +1,4 @@
 -- For each function, the laws that its proof goes by.
-use Rattle.bench.proofs.AppliesLaws.{answering}
-use Rattle.bench.proofs.ExampleLaws.{examples}
 use Rattle.bench.proofs.SetupLaws.{limits-ground, marks-none, marks-next, marks-fail}
 use Rattle.bench.proofs.TableLaws.{kind-passes, kind-stops, check-event, check-kind, check-state, check-turn, kind-known, not_same}
 use Rattle.bench.proofs.TurnLaws.{saying-board, turn-made, wait-neither, wait-refuses, wait-waits}
@@ -28,8 +26,3 @@ pub ruleset rules_bench_bench_next_move = (wait-waits, wait-refuses, wait-neithe
 pub ruleset rules_bench_bench_turn = (saying-board, turn-made)
 
 pub ruleset rules_fresh_sound_of = (set-none, set-take, set-leave, marks-none, marks-next, nth_after, get_or-take)
-
--- what src/claims claims
-pub ruleset event_claims = (answering)
-
-pub ruleset example_claims = (examples)
