@@ -10,18 +10,24 @@ use borrow.Author.Tests.{eq-eqb, leb-true, leb-false}
 use Rattle.delivery.proofs.TestLaws.{decided}
 use Rattle.std.specs.Prelude.{Result, Ok, Err}
 use Rattle.std.proofs.lemmas.Bool.Decides.{nat_tests}
-use Rattle.signer.proofs.FromOneLaws.{nth-index, within_low, within-high, within_in}
+use Rattle.std.proofs.lemmas.List.{get_or-take}
+use Rattle.signer.proofs.FromOneLaws.{nth-index, nth_after, within_low, within-high, within_in}
 use Rattle.delivery.specs.Counting.{every_in}
 use Rattle.delivery.specs.Limits.{limits}
 use Rattle.delivery.specs.Sets.{in_set, set_of, with_board}
 use Rattle.delivery.proofs.CountLaws.{every-reads, every-fails}
-use Rattle.delivery.proofs.SetLaws.{set-cong, in-set_of-within, in-set_of-passes}
+use Rattle.delivery.proofs.SetLaws.{set-none, set-take, set-leave, set-cong, in-set_of-within, in-set_of-passes}
 use Rattle.bench.specs.Setups.{is_mark_at, is_marked_sound, setup_by, fresh_answer, bench_of, fresh_bench, fresh_of}
 use Rattle.bench.specs.Answers.{setup_number, fresh_number}
 use Rattle.bench.specs.Making.{IsBusSize, mark, Making}
 use Rattle.bench.specs.declared.answer.SetupFault.{SetupFault}
 use Rattle.bench.specs.declared.answer.SetupFault.TheVariants.{NoBus, NoMark}
-use Rattle.bench.proofs.SetupLaws.{in_within, all, alone-set}
+use Rattle.bench.proofs.SetupLaws.{in_within, all, alone-set, marks-none, marks-next}
+
+-- what the call's functions go by: a number of boards is within the limit; and a mark more is passed
+pub ruleset bus_size = (within-high)
+
+pub ruleset marks_passed = (set-none, set-take, set-leave, marks-none, marks-next, nth_after, get_or-take)
 
 module _ (n : ℕ) (marks : List ℕ) where
   abbrev WellMarked : Type 0
