@@ -9,33 +9,16 @@ use Rattle.bench.specs.Claim.{Agreement}
 use Rattle.bench.specs.Demands.{history_from, Agreeing}
 use Rattle.bench.specs.declared.event.Event.{Event}
 use Rattle.bench.proofs.SetupLaws.{limits-ground}
-use Rattle.bench.proofs.ClaimLaws.{Sure, sure-after, sure-agrees}
+use Rattle.bench.proofs.ClaimLaws.{sure-after, sure-agrees}
 use Rattle.bench.proofs.OutsetLaws.{sure-fresh}
-
-sure-played : (n : ℕ) (marks : List ℕ) (es : List Event)
-    → Sure limits (setup limits n marks) (history_from n marks es) (bench_after limits n marks es)
-unfolding fresh_bench
-sure-played n marks es =
-    sure-after
-    limits
-    (setup limits n marks)
-    (limits-ground n marks)
-    es
-    []
-    (fresh_bench limits n marks)
-    (sure-fresh limits (setup limits n marks))
 
 pub agreed : (n : ℕ) (marks : List ℕ) (es : List Event)
     → Agreement limits n marks (history_from n marks es) (bench_after limits n marks es)
+unfolding fresh_bench
 agreed n marks es =
-    sure-agrees
-    limits
-    n
-    marks
-    (limits-ground n marks)
-    (history_from n marks es)
-    (bench_after limits n marks es)
-    (sure-played n marks es)
+    let S = setup limits n marks in
+    let ground = limits-ground n marks in
+    sure-agrees limits n marks ground _ _ (sure-after limits S ground es [] (fresh_bench limits n marks) (sure-fresh limits S))
 
 pub agreeing : Agreeing
 agreeing = record { agrees = agreed }

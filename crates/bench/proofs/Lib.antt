@@ -1,7 +1,7 @@
 -- What is claimed of every list of events is shown in Demands. Before it, in the order in which they rest on one another: laws
 -- of the machine, of histories, of one accepted event, of what is read off the bench after it, and of every list of events.
--- After it, what the walks of calls on a lent bench go by; that the table's two texts say the same (AppliesLaws), and those of
--- the call for a fresh bench (MakingLaws); and the rules by which private calls are proved.
+-- After it, that the table's two texts say the same (AppliesLaws), and those of the call for a fresh bench (MakingLaws); and
+-- the rules by which private calls are proved.
 pub mod TableLaws
 pub mod TurnLaws
 pub mod EffectLaws
@@ -25,9 +25,6 @@ pub mod OriginLaws
 pub mod ClaimLaws
 pub mod OutsetLaws
 pub mod Demands
-pub mod ThinCall
-pub mod LentCall
-pub mod LentBench
 pub mod AppliesLaws
 pub mod MakingLaws
 pub mod Rules

@@ -1,29 +1,23 @@
 -- Laws of a list of events that is played from its bytes: what one event more does, how long the lists are, and what is
 -- written in a lent buffer. Assumes nothing.
-use Prim.Native.Nat.{ℕ, zero, suc, ◌+◌, ◌-◌, ◌*◌, ◌≤◌, ◌<◌, ◌/◌, ◌%◌}
-use borrow.Author.Tests.{leb-true, le-leb, eq-eqb}
+use Prim.Native.Nat.{ℕ, zero, suc, ◌+◌, ◌-◌, ◌*◌, ◌≤◌, ◌<◌, ◌/◌}
 use native.Mathlib.Nat.{zero-add}
-use native.Mathlib.Numerals.{add-one}
 use native.Mathlib.Omega.{arith}
-use mathlib.Core.Path.{◌≡◌, refl, sym, ap, ◌∙◌}
+use mathlib.Core.Path.{◌≡◌, refl, ap, ◌∙◌}
 use mathlib.Core.List.{List, [], ◌∷◌, ◌++◌}
-use lib.Dec.{eqb, leb}
-use lib.ListN.{length, drop, set, length-append, length-drop, get_or-append}
+use lib.ListN.{length, drop, length-append, length-drop, get_or-append}
 use lib.Seq.{sets, sets-eq, drop-drop}
+use Rattle.std.proofs.lemmas.Bool.Decides.{nat_tests}
 use Rattle.signer.specs.FromOne.{nth}
 use Rattle.signer.proofs.FromOneLaws.{nth-index}
-use Rattle.signer.proofs.ConditionalLaws.{if-true, if-elim}
 use Rattle.delivery.specs.Limits.{Limits}
 use Rattle.bench.specs.Events.{high_first, event_bytes, event_from}
 use Rattle.bench.specs.Setups.{fresh_bench}
-use Rattle.bench.specs.Answers.{answer_number}
 use Rattle.bench.specs.Effects.{step_of}
 use Rattle.bench.specs.Runs.{steps, last_of, after, answers_to, events_in, ending_of, played_by, events_played, written, played_of, answers_after}
-use Rattle.bench.specs.Story.{History, history_of}
+use Rattle.bench.specs.Story.{history_of}
 use Rattle.bench.specs.declared.bench.Bench.{Bench}
 use Rattle.bench.specs.declared.event.Event.{Event}
-use Rattle.std.specs.Prelude.{Result, Ok}
-use Rattle.bench.specs.declared.play.Unplayed.{Unplayed}
 
 -- an event is its six bytes, and no byte after them matters
 pub event-bytes : (k a b i high low : ℕ) (bs : List ℕ)
@@ -33,15 +27,7 @@ event-bytes k a b i high low bs = refl
 
 pub event-append : (bs more : List ℕ) → event_bytes ≤ length bs → event_from (bs ++ more) ≡ event_from bs
 unfolding event_from
-event-append bs more h =
-    rw (
-      get_or-append bs more 0 0 (omega (arith, h)),
-      get_or-append bs more 0 1 (omega (arith, h)),
-      get_or-append bs more 0 2 (omega (arith, h)),
-      get_or-append bs more 0 3 (omega (arith, h)),
-      get_or-append bs more 0 4 (omega (arith, h)),
-      get_or-append bs more 0 5 (omega (arith, h)),
-    )
+event-append bs more h = grind (arith, get_or-append)
 
 -- what comes of no event, and of one and then others
 pub steps-nil : (L : Limits) (c : Bench) → steps L c [] ≡ []
@@ -85,116 +71,53 @@ length-answers L c (e ∷ es) = ap suc (length-answers L (step_of L c e).bench e
 -- of the events that are left after k of n, the first is at the head of the bytes that are left
 pub events-next : (n k at : ℕ) (bs : List ℕ) → k < n
     → events_in (n - k) (drop at bs) ≡ event_from (drop at bs) ∷ events_in (n - (k + 1)) (drop (at + event_bytes) bs)
-unfolding events_in
-events-next n k at bs h =
-    let e : n - k ≡ suc (n - (k + 1)) = omega arith in
-    ap (λ (m : ℕ). events_in m (drop at bs)) e
-    ∙ ap (λ (xs : List ℕ). event_from (drop at bs) ∷ events_in (n - (k + 1)) xs) (drop-drop event_bytes at bs)
-
-module _ (L : Limits) (c : Bench) (n k at : ℕ) (bs : List ℕ) (h : k < n) where
-  -- so the bench after those that are left is that after this one and the rest
-  pub after_next : after L c (events_in (n - k) (drop at bs))
-      ≡ after L (step_of L c (event_from (drop at bs))).bench (events_in (n - (k + 1)) (drop (at + event_bytes) bs))
-  unfolding after steps last_of
-  after_next = ap (λ (es : List Event). after L c es) (events-next n k at bs h)
-
-  -- and their answers are written by writing this one's, and then the rest
-  pub answers_next : (buf : List ℕ) → sets buf k (answers_to L c (events_in (n - k) (drop at bs)))
-      ≡ sets
-      (set buf k (answer_number (step_of L c (event_from (drop at bs))).answer))
-      (k + 1)
-      (answers_to L (step_of L c (event_from (drop at bs))).bench (events_in (n - (k + 1)) (drop (at + event_bytes) bs)))
-  unfolding answers_to steps
-  answers_next buf =
-      ap (λ (es : List Event). sets buf k (answers_to L c es)) (events-next n k at bs h)
-      ∙ ap
-      (λ (j : ℕ). sets (set buf k (answer_number (step_of L c (event_from (drop at bs))).answer)) j (answers_to L (step_of L c (event_from (drop at bs))).bench (events_in (n - (k + 1)) (drop (at + event_bytes) bs))))
-      (sym (add-one k))
-
--- once none is left, the bench and the buffer are as they stand
-pub after_none : (L : Limits) (c : Bench) (k : ℕ) (bs : List ℕ) → k ≡ 0 → after L c (events_in k bs) ≡ c
-unfolding after events_in steps last_of
-after_none L c k bs e = rw e
-
-pub answers-none : (L : Limits) (c : Bench) (k i : ℕ) (bs buf : List ℕ) → k ≡ 0 → sets buf i (answers_to L c (events_in k bs)) ≡ buf
-unfolding answers_to events_in steps
-answers-none L c k i bs buf e = rw e
+events-next n k at bs h = let e : n - k ≡ suc (n - (k + 1)) = omega arith in grind (arith, e, events-more (n - (k + 1)) (drop at bs), drop-drop event_bytes at bs)
 
 -- writing one after another from the start is writing all in place of the first
 pub sets-written : (xs ys : List ℕ) → length xs ≤ length ys → sets ys 0 xs ≡ written xs ys
 unfolding written
 sets-written xs ys h = sets-eq xs ys 0 (omega arith) ∙ ap (λ (m : ℕ). xs ++ drop m ys) (zero-add (length xs))
 
+-- what the list and the buffer of a run are known by
+pub ruleset run_lengths = (length-events, length-answers, sets-written)
+
 -- a buffer that is written stays as long as it was
 pub length-written : (xs ys : List ℕ) → length xs ≤ length ys → length (written xs ys) ≡ length ys
 unfolding written
 length-written xs ys h = omega (arith, length-append xs (drop (length xs) ys), length-drop (length xs) ys)
 
--- how playing a list ends goes by its length and the room alone
-pub played-ending : (L : Limits) (n : ℕ) (marks bs : List ℕ) (room : ℕ) → (played_of L n marks bs room).ending ≡ ending_of (length bs) room
-unfolding played_of
-played-ending L n marks bs room = refl
-
 -- there is room for the answers to what is played
 pub played-fits : (bs : List ℕ) (room : ℕ) → length (events_played bs room) ≤ room
 unfolding ending_of played_by
-played-fits bs room =
-    if-elim
-    (λ (x : Result (Unit {0}) Unplayed). length (played_by x bs) ≤ room)
-    (eqb (length bs % event_bytes) 0)
-    _
-    _
-    (λ h. if-elim (λ (x : Result (Unit {0}) Unplayed). length (played_by x bs) ≤ room) (leb (length bs / event_bytes) room) _ _ (λ g. omega (arith, length-events (length bs / event_bytes) bs, leb-true (length bs / event_bytes) room g)) (λ g. omega arith))
-    (λ h. omega arith)
-
-pub played-room : (bs : List ℕ) (room : ℕ) → ending_of (length bs) room ≡ Ok tt → length bs / event_bytes ≤ room
-unfolding played_by
-played-room bs room h =
-    let e : length (events_played bs room) ≡ length (events_in (length bs / event_bytes) bs) = ap (λ (x : Result (Unit {0}) Unplayed). length (played_by x bs)) h in
-    omega (arith, played-fits bs room, e, length-events (length bs / event_bytes) bs)
+played-fits bs room = grind (arith, nat_tests, length-events)
 
 -- whole events for which there is room are played
-pub events-played : (k room : ℕ) (bs : List ℕ) → length bs ≡ event_bytes * k → k ≤ room → events_played bs room ≡ events_in k bs
+events-played : (k room : ℕ) (bs : List ℕ) → length bs ≡ event_bytes * k → k ≤ room → events_played bs room ≡ events_in k bs
 unfolding ending_of played_by
-events-played k room bs e h =
-    let whole : length bs % event_bytes ≡ 0 = omega arith in
-    let count : length bs / event_bytes ≡ k = omega arith in
-    let fits : length bs / event_bytes ≤ room = omega arith in
-    ap
-    (λ (x : Result (Unit {0}) Unplayed). played_by x bs)
-    (if-true (eqb (length bs % event_bytes) 0) _ _ (eq-eqb (length bs % event_bytes) 0 whole)
-    ∙ if-true (leb (length bs / event_bytes) room) _ _ (le-leb (length bs / event_bytes) room fits))
-    ∙ ap (λ (m : ℕ). events_in m bs) count
+events-played k room bs e h = let count : length bs / event_bytes ≡ k = omega arith in grind (arith, nat_tests, count)
 
 -- so playing them gives the bench after them, and their answers are written
 module _ (L : Limits) (n : ℕ) (marks : List ℕ) (k : ℕ) (bs : List ℕ) (e : length bs ≡ event_bytes * k) where
   pub played-bench : (room : ℕ) → k ≤ room → (played_of L n marks bs room).bench ≡ after L (fresh_bench L n marks) (events_in k bs)
   unfolding played_of
-  played-bench room h = ap (λ (es : List Event). after L (fresh_bench L n marks) es) (events-played k room bs e h)
+  played-bench room h = rw (events-played k room bs e h)
 
   pub played-answers : (buf : List ℕ) → k ≤ length buf
       → answers_after L n marks bs buf ≡ written (answers_to L (fresh_bench L n marks) (events_in k bs)) buf
   unfolding answers_after
-  played-answers buf h =
-      ap (λ (es : List Event). written (answers_to L (fresh_bench L n marks) es) buf) (events-played k (length buf) bs e h)
+  played-answers buf h = rw (events-played k (length buf) bs e h)
 
 -- and what is written can be read
 pub nth-written : (xs ys : List ℕ) (k : ℕ) → 1 ≤ k → k ≤ length xs → nth (written xs ys) k 0 ≡ nth xs k 0
 unfolding written
-nth-written xs ys k l h =
-    nth-index (xs ++ drop (length xs) ys) k 0 l
-    ∙ get_or-append xs (drop (length xs) ys) 0 (k - 1) (omega arith)
-    ∙ sym (nth-index xs k 0 l)
+nth-written xs ys k l h = grind (arith, nth-index, get_or-append)
 
 -- a history looks at no more of the buffer than the answers
 history-append : (L : Limits) (c : Bench) (es : List Event) (ys : List ℕ)
     → history_of es (answers_to L c es ++ ys) ≡ history_of es (answers_to L c es)
 unfolding history_of answers_to steps
 history-append L c [] ys = refl
-history-append L c (e ∷ es) ys =
-    ap
-    (λ (H : History). record { event = e; answer = answer_number (step_of L c e).answer } ∷ H)
-    (history-append L (step_of L c e).bench es ys)
+history-append L c (e ∷ es) ys = grind (arith, history-append L (step_of L c e).bench es ys)
 
 pub history-written : (L : Limits) (c : Bench) (es : List Event) (buf : List ℕ)
     → history_of es (written (answers_to L c es) buf) ≡ history_of es (answers_to L c es)

@@ -40,7 +40,7 @@ impl Numbered for SetupFault {
 impl Numbered for Refusal {
     ghost number_in_table = { refusal_number };
 
-    #[tactic(auto, using(crate::proofs::Rules::rules_turn_numbers), unfolding(crate::specs::Answers::refusal_number))]
+    #[tactic(auto, using(crate::proofs::AnswerLaws::turn_numbers), unfolding(crate::specs::Answers::refusal_number))]
     fn number(self) -> u8 {
         self as u8
     }

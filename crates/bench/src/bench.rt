@@ -52,7 +52,7 @@ impl Bench {
     }
 
     // Asks board k, where it stands; a fresh one where the number is no board's.
-    #[tactic(auto, using(crate::proofs::Rules::rules_bench_bench_ask), unfolding(crate::specs::Benches::board_at))]
+    #[tactic(auto, using(signer::proofs::FromOneLaws::get_some, signer::proofs::FromOneLaws::get_none), unfolding(crate::specs::Benches::board_at))]
     pub(crate) fn ask<R, F: FnOnce(&Board) -> R>(&self, k: u8, question: F) -> R
         requires { F.IsAlwaysCallable question }
         ensures { FnOnceReturnsAt F.FnOnce question (board_at limits self.now k) result }
@@ -88,7 +88,7 @@ impl Bench {
 
     // The boards that have delivered a speaker's statement under an identifier. A loop of its own, beside `sound_of`, which
     // tests the marks too and stops at the first that is none: one loop for both would be no plainer.
-    #[tactic(auto, using(crate::proofs::Rules::rules_bench_bench_holders), unfolding(crate::specs::Benches::holders))]
+    #[tactic(auto, unfolding(crate::specs::Benches::holders))]
     pub(crate) fn holders(&self, speaker: u8, id: Identifier) -> BoardSet
         ensures { result ≡ holders limits self.now speaker id.0 }
     {

@@ -137,7 +137,7 @@ impl Bench {
     }
 
     // One event, in place: answered, and its effect if it is accepted; a refused one leaves the bench as it is.
-    #[tactic(auto, using(crate::proofs::Rules::rules_bench_bench_step))]
+    #[tactic(auto, unfolding(crate::specs::Effects::step_of, crate::specs::Answers::is_accepted))]
     pub(crate) fn step(&mut self, e: Event) -> Result<(), Refusal>
         ensures answer { result ≡ (step_of limits self.old e).answer }
         ensures bench { self.new ≡ (step_of limits self.old e).bench }

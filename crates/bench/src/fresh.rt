@@ -21,7 +21,7 @@ pub struct Fresh {
 
 // The boards of 1 to n that are marked sound, if the marks of all of these are marks. A loop of its own, beside that of
 // `Bench::holders`: this one also tests the marks, and stops at one that is none.
-#[tactic(auto, using(crate::proofs::Rules::rules_fresh_sound_of), unfolding(crate::specs::Setups::is_mark_at, crate::specs::Setups::is_marked_sound))]
+#[tactic(auto, using(crate::proofs::MakingLaws::marks_passed), unfolding(crate::specs::Setups::is_mark_at, crate::specs::Setups::is_marked_sound))]
 fn sound_of(n: u8, marks: &[u8; Bench::BOARDS as usize]) -> Result<BoardSet, SetupFault>
     requires { n ≤ limits.boards }
     ensures { result ≡ (if every_in n (is_mark_at marks.now) then Ok (set_of n (is_marked_sound marks.now)) else Err NoMark) }
@@ -75,7 +75,7 @@ impl Bench {
 
     // A fresh bench of n boards; marks are 0 for sound and 1 for faulty, and those after the n-th are not read. The call is
     // made from n and all seven marks (a rule of the project), so these stay two arguments, here and where a list is played.
-    #[tactic(auto, using(crate::proofs::Rules::rules_bench_bench_fresh), unfolding(crate::specs::Setups::fresh_of, crate::specs::Setups::fresh_bench, crate::specs::Setups::fresh_answer, crate::specs::Setups::setup_by))]
+    #[tactic(auto, using(crate::proofs::MakingLaws::bus_size), unfolding(crate::specs::Setups::fresh_of, crate::specs::Setups::fresh_bench, crate::specs::Setups::fresh_answer, crate::specs::Setups::setup_by))]
     pub fn fresh(n: u8, marks: [u8; Bench::BOARDS as usize]) -> Fresh
         ensures { result ≡ fresh_of limits n marks }
     {

@@ -42,7 +42,7 @@ fn ending_of(bytes: usize, room: usize) -> Result<(), Unplayed>
 
 impl Bench {
     // Plays the events of a list, and writes their answers; bytes that are no whole event are not read.
-    #[tactic(auto, using(crate::proofs::Rules::rules_bench_bench_run))]
+    #[tactic(auto, using(crate::proofs::RunLaws::run_lengths), unfolding(crate::specs::Runs::after, crate::specs::Runs::answers_to, crate::specs::Runs::steps, crate::specs::Runs::last_of, crate::specs::Runs::events_in))]
     fn run(&mut self, events: &[u8], answers: &mut [u8])
         requires { length events.now / event_bytes ≤ length answers.old }
         ensures bench { self.new ≡ after limits self.old (events_in (length events.now / event_bytes) events.now) }
@@ -57,7 +57,7 @@ impl Bench {
     // Makes a fresh bench and plays a list of events into it, the bytes of each as they stand in a schedule. Each
     // answer's number is written to its place in `answers`, and the rest of `answers` stays. A list that cannot be
     // played leaves the bench fresh and `answers` as it was.
-    #[tactic(auto, using(crate::proofs::Rules::rules_bench_bench_play))]
+    #[tactic(auto, using(std::proofs::lemmas::Bool::Decides::nat_tests), unfolding(crate::specs::Runs::ending_of, crate::specs::Runs::played_of, crate::specs::Runs::answers_after, crate::specs::Runs::played_by, crate::specs::Runs::after, crate::specs::Runs::answers_to, crate::specs::Runs::written, crate::specs::Runs::steps, crate::specs::Runs::last_of, crate::specs::Setups::fresh_of))]
     pub fn play(
         n: u8,
         marks: [u8; Bench::BOARDS as usize],

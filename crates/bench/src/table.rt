@@ -214,6 +214,7 @@ impl Bench {
     }
 
     // Rows 10 to 21, all but row 22, which is about what comes of a turn; the event where none of them applies.
+    #[tactic(auto, unfolding(crate::specs::Table::check_of, crate::specs::Table::first_of))]
     pub(crate) fn check_rows(&self, e: Event) -> Result<Known, Refusal>
         ensures passed { IfOk result (λ k. (k ≡ e) × (e.kind ≡ turning → IsVoting limits self.now e.a) × (check_of limits self.now e ≡ first_of (turn_rows limits self.now e))) }
         ensures refused { IfErr result (λ refusal. check_of limits self.now e ≡ Err refusal) }

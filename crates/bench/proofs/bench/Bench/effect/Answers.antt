@@ -1,38 +1,29 @@
 -- `Bench::effect` meets its contract: the boards that are told something. Assumes nothing.
-use mathlib.Core.Path.{sym, ap, ◌∙◌}
+use native.Mathlib.Omega.{arith}
 use borrow.Author.Rules.{rules}
 use Rattle.delivery.specs.Limits.{limits}
 use Rattle.vote.specs.Boards.{propose, suspect, trust}
 use Rattle.vote.specs.Announcements.{announce}
 use Rattle.bench.specs.Events.{kind_number}
 use Rattle.bench.specs.Effects.{effect_of}
-use Rattle.bench.proofs.EffectLaws.{effect-proposing, effect-announcing, effect-suspecting, effect-trusting}
 use Rattle.bench.proofs.bench.Bench.effect.Goals as goal
 
 pub returns-in-Propose-clause-ok : goal.returns-in-Propose-clause-ok
-unfolding kind_number
+unfolding kind_number effect_of
 returns-in-Propose-clause-ok c =
-    c.change.ensures (λ b. propose b c.e.inside.value) (λ b told. search rules)
-    ∙ sym (effect-proposing limits c.args.self.now _ (ap kind_number c.in-Propose.is))
-    ∙ ap (effect_of limits c.args.self.now) c.e.view_is
+    grind (arith, c.change.ensures (λ b. propose b c.e.inside.value) (λ b told. search rules), c.in-Propose.is, c.e.view_is)
 
 pub returns-in-Announce-clause-ok : goal.returns-in-Announce-clause-ok
-unfolding kind_number
+unfolding kind_number effect_of
 returns-in-Announce-clause-ok c =
-    c.change-in-Announce.ensures (λ b. announce limits c.args.self.now.n b c.e.inside.id c.e.inside.value) (λ b told. search rules)
-    ∙ sym (effect-announcing limits c.args.self.now _ (ap kind_number c.in-Announce.is))
-    ∙ ap (effect_of limits c.args.self.now) c.e.view_is
+    grind (arith, c.change-in-Announce.ensures (λ b. announce limits c.args.self.now.n b c.e.inside.id c.e.inside.value) (λ b told. search rules), c.in-Announce.is, c.e.view_is)
 
 pub returns-in-Suspect-clause-ok : goal.returns-in-Suspect-clause-ok
-unfolding kind_number
+unfolding kind_number effect_of
 returns-in-Suspect-clause-ok c =
-    c.change-in-Suspect.ensures (λ b. suspect b c.e.inside.b) (λ b told. search rules)
-    ∙ sym (effect-suspecting limits c.args.self.now _ (ap kind_number c.in-Suspect.is))
-    ∙ ap (effect_of limits c.args.self.now) c.e.view_is
+    grind (arith, c.change-in-Suspect.ensures (λ b. suspect b c.e.inside.b) (λ b told. search rules), c.in-Suspect.is, c.e.view_is)
 
 pub returns-in-Trust-clause-ok : goal.returns-in-Trust-clause-ok
-unfolding kind_number
+unfolding kind_number effect_of
 returns-in-Trust-clause-ok c =
-    c.change-in-Trust.ensures (λ b. trust b c.e.inside.b) (λ b told. search rules)
-    ∙ sym (effect-trusting limits c.args.self.now _ (ap kind_number c.in-Trust.is))
-    ∙ ap (effect_of limits c.args.self.now) c.e.view_is
+    grind (arith, c.change-in-Trust.ensures (λ b. trust b c.e.inside.b) (λ b told. search rules), c.in-Trust.is, c.e.view_is)
