@@ -1,7 +1,3 @@
--- What is claimed of every list of events is shown in Demands. Before it, in the order in which they rest on one another: laws
--- of the machine, of histories, of one accepted event, of what is read off the bench after it, and of every list of events.
--- After it, what the walks of calls on a lent bench go by; that the table's two texts say the same (AppliesLaws), and those of
--- the call for a fresh bench (MakingLaws); and the rules by which private calls are proved.
 pub mod TableLaws
 pub mod TurnLaws
 pub mod EffectLaws
@@ -12,17 +8,18 @@ pub mod ShowLaws
 pub mod ExampleLaws
 pub mod MomentLaws
 pub mod HistoryLaws
-pub mod LegalLaws
-pub mod ChangeLaws
-pub mod FitLaws
-pub mod SetupLaws
-pub mod ReadingLaws
-pub mod OwingLaws
-pub mod StepLaws
-pub mod AccountLaws
+pub mod OwedLaws
+pub mod ReplayLaws
 pub mod TellsLaws
+pub mod AcceptedLaws
+pub mod ReadBackLaws
+pub mod SquareLaws
+pub mod SpreadLaws
+pub mod FitLaws
+pub mod InvariantLaws
 pub mod OriginLaws
 pub mod ClaimLaws
+pub mod SetupLaws
 pub mod OutsetLaws
 pub mod Demands
 pub mod ThinCall

@@ -2,44 +2,27 @@
 use Prim.Native.Nat.{ℕ, ◌+◌, ◌≤◌, ◌<◌}
 use native.Mathlib.Decide.{dec_le}
 use native.Mathlib.Omega.{arith}
-use mathlib.Core.Path.{◌≡◌, refl, sym, ap, subst, subst⁻¹, ◌∙◌, fun_ext}
+use mathlib.Core.Path.{◌≡◌, refl, sym, ap, subst, ◌∙◌, fun_ext}
 use mathlib.Core.Bool.{Bool, true, false, true≢false}
 use mathlib.Core.List.{List}
 use mathlib.Core.Logic.{⊎_elim}
 use lib.Dec.{eqb}
-use lib.ListN.{length-replicate}
 use Rattle.signer.specs.FromOne.{is_within, nth}
 use Rattle.std.specs.Prelude.{Result, Ok, Err, if◌then◌else◌}
-use Rattle.signer.specs.Log.{entry_at, entry_of}
-use Rattle.signer.specs.Signer.{fresh_signer}
-use Rattle.signer.specs.declared.signer.Signer.{Signer}
 use Rattle.signer.proofs.ConditionalLaws.{if-true, if-elim}
 use Rattle.signer.proofs.FromOneLaws.{within_low, within-high, within-out}
-use Rattle.signer.proofs.SignerLaws.{WellFormed, fresh-last, fresh-unsigned, fresh-wellformed}
 use Rattle.delivery.specs.Limits.{Limits, limits}
 use Rattle.delivery.specs.Bus.{is_board}
 use Rattle.delivery.specs.Counting.{every_in}
 use Rattle.delivery.specs.Sets.{in_set, set_of, with_board}
-use Rattle.delivery.specs.Delivered.{heard}
-use Rattle.delivery.specs.declared.delivered.Delivered.{Delivered}
 use Rattle.delivery.proofs.TestLaws.{decided, fails}
 use Rattle.delivery.proofs.CountLaws.{every-reads, reads-every}
-use Rattle.delivery.proofs.SetLaws.{in-set_of-outside, in-none, set-none, with-next}
-use Rattle.delivery.proofs.DeliveredLaws.{heard-nothing}
-use Rattle.delivery.proofs.OwedLaws.{nothing-whole, owed-nothing}
-use Rattle.vote.specs.Boards.{fresh_board}
-use Rattle.vote.specs.declared.board.Board.{Board}
-use Rattle.vote.proofs.BoardLaws.{fresh-delivered}
-use Rattle.vote.proofs.ProperLaws.{Proper, fresh-proper}
-use Rattle.vote.proofs.LifeLaws.{Grounded, fresh-grounded}
-use Rattle.bench.specs.Benches.{signer_at, heard_by, signed_by}
+use Rattle.delivery.proofs.SetLaws.{in-set_of-outside, set-none, with-next}
 use Rattle.bench.specs.Setups.{is_mark, is_mark_at, is_marked_sound, Setup, fresh_answer, setup_by, setup, bench_of, fresh_bench, fresh_of}
 use Rattle.bench.specs.Answers.{setup_number, fresh_number}
 use Rattle.bench.specs.declared.answer.SetupFault.{SetupFault}
 use Rattle.bench.specs.declared.answer.SetupFault.TheVariants.{NoBus, NoMark}
-use Rattle.bench.specs.declared.bench.Bench.{Bench}
-use Rattle.bench.proofs.BenchLaws.{board-fresh, signer-fresh}
-use Rattle.bench.proofs.FitLaws.{Ground, Fit}
+use Rattle.bench.proofs.FitLaws.{Ground}
 
 -- the members of a set of 1 to n are among them, and the set of board 1 alone is such a set
 pub in_within : (n : ℕ) (p : ℕ → Bool) (k : ℕ) → in_set (set_of n p) k ≡ true → is_within n k ≡ true
@@ -142,48 +125,3 @@ ground-by n marks (Err _) h = alone-ground n marks
 
 pub limits-ground : (n : ℕ) (marks : List ℕ) → Ground limits (setup limits n marks)
 limits-ground n marks = ground-by n marks (fresh_answer limits n marks) (made-board limits n marks)
-
--- on a fresh bench nothing is heard and nothing is signed
-module _ (L : Limits) (n sound : ℕ) where
-  abbrev empty : Bench
-  empty = bench_of L n sound
-
-  pub heard-fresh : (k s i : ℕ) → heard_by L empty k s i ≡ 0
-  heard-fresh k s i =
-      ap (λ (b : Board). heard L b.delivered s i) (board-fresh L n sound k)
-      ∙ ap (λ (d : Delivered). heard L d s i) (fresh-delivered L)
-      ∙ heard-nothing L s i
-
-  pub signed-fresh : (s i v : ℕ) → signed_by L empty s i ≡ entry_of v → ⊥
-  unfolding signed_by
-  signed-fresh s i v h =
-      fresh-unsigned
-      L.identifiers
-      i
-      v
-      (subst (λ (x : Signer). entry_at x.log i ≡ entry_of v) (signer-fresh L n sound s) h)
-
-  last-fresh : (k : ℕ) → (signer_at L empty k).last.0 ≡ 0
-  last-fresh k = ap (λ (x : Signer). x.last.0) (signer-fresh L n sound k) ∙ fresh-last L.identifiers
-
--- and it is fit
-pub fresh-fit : (L : Limits) (S : Setup) → Fit L S (bench_of L S.n S.sound)
-unfolding bench_of
-fresh-fit L S =
-    record {
-      same-n = refl;
-      same-sound = refl;
-      boards-size = length-replicate L.boards (fresh_board L);
-      signers-size = length-replicate L.boards (fresh_signer L.identifiers);
-      complete = nothing-whole L;
-      proper = λ k. subst⁻¹ (Proper L) (board-fresh L S.n S.sound k) (fresh-proper L);
-      grounded = λ k. subst⁻¹ (Grounded L S.n) (board-fresh L S.n S.sound k) (fresh-grounded L S.n);
-      formed = λ k.
-          subst⁻¹ (WellFormed L.identifiers) (signer-fresh L S.n S.sound k) (fresh-wellformed L.identifiers);
-      apart = λ k f. board-fresh L S.n S.sound k;
-      heard-was-signed = λ k s i v h. absurd (omega (arith, heard-fresh L S.n S.sound k s i, h));
-      own = λ k i v t h. absurd (signed-fresh L S.n S.sound k i v h);
-      ahead = λ k t. omega (arith, last-fresh L S.n S.sound k);
-      owed-lacking = λ k s i h. absurd (true≢false (sym h ∙ ap (λ (m : ℕ). in_set m k) (owed-nothing L s i) ∙ in-none k));
-      lacking-owed = λ k s i l. absurd (l.holder-has (heard-fresh L S.n S.sound l.holder s i));
-    }
