@@ -124,16 +124,14 @@ nothing-owed = (
 )
 
 pub signing-owes : SigningOwes
-signing-owes o s i sound have k w b d low high = (
-  echo.signing-only limits o s i sound have (whole o w) b d k,
-  echo.signing-owes limits o s i sound have (whole o w) b d k low high,
-)
+signing-owes o s i sound have k w b d low high =
+    let law = echo.signing-owes limits o s i sound have (whole o w) b d k in
+    (λ t. (law.0 t).2, λ t. law.1 (low, high, t))
 
 pub delivery-owes : DeliveryOwes
-delivery-owes o j s i sound have k w b d low high = (
-  echo.delivery-only limits o s i sound have (whole o w) b d j k,
-  λ t. echo.delivery-owes limits o s i sound have (whole o w) b d j k low high t.0 t.1,
-)
+delivery-owes o j s i sound have k w b d low high =
+    let law = echo.delivery-owes limits o s i sound have (whole o w) b d k j in
+    (λ t. ((law.0 t).0, (law.0 t).1.2), λ t. law.1 (t.0, (low, high, t.1)))
 
 pub others-owed : OthersOwed
 others-owed o j s i sound have s' i' f = (

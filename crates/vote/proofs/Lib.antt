@@ -7,6 +7,7 @@ pub mod BoardLaws
 pub mod SigningLaws
 pub mod ProperLaws
 pub mod LifeLaws
+pub mod CallLaws
 pub mod EstimateLaws
 pub mod ClaimLaws
 pub mod ExampleLaws
