@@ -40,11 +40,13 @@ use Rattle.bench.specs.declared.bench.Bench.{Bench}
 use Rattle.bench.specs.declared.event.Event.{Event}
 use Rattle.bench.proofs.AnswerLaws.{step-accepted, step-refused}
 use Rattle.bench.proofs.MomentLaws.{accepted, ◌then◌}
-use Rattle.bench.proofs.FitLaws.{Ground}
+use Rattle.bench.proofs.ViewLaws.{view, setup_of}
+use Rattle.bench.proofs.ReplayLaws.{was-signed, heard-or-not}
+use Rattle.bench.proofs.FitLaws.{Ground, Fit}
 use Rattle.bench.proofs.AcceptedLaws.{accepted-passed, passed-accepted}
-use Rattle.bench.proofs.SquareLaws.{view, setup_of}
+use Rattle.bench.proofs.SquareLaws.{lawful, square}
 use Rattle.bench.proofs.SpreadLaws.{Lacking}
-use Rattle.bench.proofs.InvariantLaws.{Fit, lawful, square, kept, same-setup}
+use Rattle.bench.proofs.InvariantLaws.{kept, same-setup}
 use Rattle.bench.proofs.TellsLaws.{Tells, tells-refused, tells-accepted}
 use Rattle.bench.proofs.OwedLaws.{Lacks, owed-lacks, lacks-owed}
 use Rattle.bench.proofs.OriginLaws.{Rooted, rooted-refused, opened-origin, rooted-accepted}
@@ -155,23 +157,16 @@ module _ (L : Limits) where
     sure-validity k r v d =
         opened-origin g y.fit y.tells y.rooted k r v (won-opened L c.n (heard_by L c k) g.some-board r v (decided-won k r v d)).said
 
-    -- a board has heard what was signed, or nothing
-    heard-cases : (k s i v : ℕ) → signed_by L c s i ≡ entry_of v → (heard_by L c k s i ≡ 0) ⊎ (heard_by L c k s i ≡ entry_of v)
-    heard-cases k s i v e = ⊎_elim (λ p. inl p) (λ p. inr (p ∙ e)) (y.fit.sane.part k s i)
-
-    was-signed : (k s i v : ℕ) → heard_by L c k s i ≡ entry_of v → signed_by L c s i ≡ entry_of v
-    was-signed k s i v e = let p = y.fit.sane.part k s i in grind arith
-
     -- who lacks a statement by the history lacks it on the bench
     lacks-lacking : (k s i v : ℕ) → Lacks L S H k s i v ↔ (Lacking c.sound (λ j. heard_by L c j s i) k s × (signed_by L c s i ≡ entry_of v))
     lacks-lacking k s i v = (
       λ l.
           let has : heard_by L c l.holder s i ≡ entry_of v = (y.tells.delivered l.holder s i v).0 l.holder-has in
-          let signed = was-signed l.holder s i v has in (
+          let signed = was-signed y.fit.sane l.holder s i v has in (
             record {
               is-sound = l.is-sound;
               other = l.other;
-              not-heard = ⊎_elim (λ z. z) (λ z. absurd (l.has-not ((y.tells.delivered k s i v).1 z))) (heard-cases k s i v signed);
+              not-heard = ⊎_elim (λ z. z) (λ z. absurd (l.has-not ((y.tells.delivered k s i v).1 z))) (heard-or-not y.fit.sane k s i v signed);
               holder = l.holder;
               holder-sound = l.holder-has.0;
               holder-has = λ z. omega (arith, has, z);
@@ -184,14 +179,14 @@ module _ (L : Limits) where
             other = l.0.other;
             has-not = λ d. omega (arith, (y.tells.delivered k s i v).0 d, l.0.not-heard);
             holder = l.0.holder;
-            holder-has = (y.tells.delivered l.0.holder s i v).1 (⊎_elim (λ z. absurd (l.0.holder-has z)) (λ z. z) (heard-cases l.0.holder s i v l.1));
+            holder-has = (y.tells.delivered l.0.holder s i v).1 (⊎_elim (λ z. absurd (l.0.holder-has z)) (λ z. z) (heard-or-not y.fit.sane l.0.holder s i v l.1));
           },
     )
 
     sure-owed : (k s i v : ℕ) → Owed L S H k s i v ↔ ((in_set (receivers L c.owed s i) k ≡ true) × (signed_by L c s i ≡ entry_of v))
     sure-owed k s i v = (
-      λ o. let l = (lacks-lacking k s i v).0 (owed-lacks L S H k s i v o) in ((y.fit.owed k s i).1 l.0, l.1),
-      λ p. lacks-owed L S H k s i v ((lacks-lacking k s i v).1 ((y.fit.owed k s i).0 p.0, p.1)),
+      λ o. let l = (lacks-lacking k s i v).0 (owed-lacks L S H k s i v o) in ((y.fit.spread k s i).1 l.0, l.1),
+      λ p. lacks-owed L S H k s i v ((lacks-lacking k s i v).1 ((y.fit.spread k s i).0 p.0, p.1)),
     )
 
     -- what a copy is owed of was signed
@@ -199,21 +194,21 @@ module _ (L : Limits) where
     owed-value k s i t = go (heard_by L c l.holder s i) refl
       where
         l : Lacking c.sound (λ j. heard_by L c j s i) k s
-        l = (y.fit.owed k s i).0 t
+        l = (y.fit.spread k s i).0 t
 
         go : (x : ℕ) → heard_by L c l.holder s i ≡ x → (v : ℕ) × Owed L S H k s i v
         go zero e = absurd (l.holder-has e)
-        go (suc v) e = (v, (sure-owed k s i v).1 (t, was-signed l.holder s i v e))
+        go (suc v) e = (v, (sure-owed k s i v).1 (t, was-signed y.fit.sane l.holder s i v e))
 
     -- where no copy is owed, what one sound board has heard every other has; and where all have, none is owed
     all-alike : NothingOwed L S H → AllAlike L S H
-    all-alike n j k p q s i v d = ⊎_elim lacking (y.tells.delivered k s i v).1 (heard-cases k s i v signed)
+    all-alike n j k p q s i v d = ⊎_elim lacking (y.tells.delivered k s i v).1 (heard-or-not y.fit.sane k s i v signed)
       where
         has : heard_by L c j s i ≡ entry_of v
         has = (y.tells.delivered j s i v).0 d
 
         signed : signed_by L c s i ≡ entry_of v
-        signed = was-signed j s i v has
+        signed = was-signed y.fit.sane j s i v has
 
         lacking : heard_by L c k s i ≡ 0 → Delivered L S H k s i v
         lacking z =
@@ -294,7 +289,7 @@ module _ (L : Limits) where
     sure-once k i v w p q = entry-one v w (sym ((y.tells.signed k i v).0 p) ∙ (y.tells.signed k i w).0 q)
 
     sure-integrity : (k s i v : ℕ) → Delivered L S H k s i v → Signed L S H s i v
-    sure-integrity k s i v d = (y.tells.signed s i v).1 (was-signed k s i v ((y.tells.delivered k s i v).0 d))
+    sure-integrity k s i v d = (y.tells.signed s i v).1 (was-signed y.fit.sane k s i v ((y.tells.delivered k s i v).0 d))
 
     -- a board stands where the story has it
     sure-stands : (k : ℕ) → let t = standing_after L S.n k H in

@@ -1,6 +1,5 @@
 pub mod TableLaws
 pub mod TurnLaws
-pub mod EffectLaws
 pub mod BenchLaws
 pub mod AnswerLaws
 pub mod RunLaws
@@ -9,13 +8,14 @@ pub mod ExampleLaws
 pub mod MomentLaws
 pub mod HistoryLaws
 pub mod OwedLaws
+pub mod ViewLaws
 pub mod ReplayLaws
 pub mod TellsLaws
 pub mod AcceptedLaws
-pub mod ReadBackLaws
-pub mod SquareLaws
+pub mod EffectLaws
 pub mod SpreadLaws
 pub mod FitLaws
+pub mod SquareLaws
 pub mod InvariantLaws
 pub mod OriginLaws
 pub mod ClaimLaws

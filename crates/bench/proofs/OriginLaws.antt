@@ -17,12 +17,13 @@ use Rattle.delivery.proofs.TestLaws.{decided}
 use Rattle.delivery.proofs.RoundLaws.{coordinator-in, identifier-none, openings-apart}
 use Rattle.delivery.proofs.DeliveredLaws.{heard-outside}
 use Rattle.delivery.proofs.AllRoundsLaws.{opening-reads}
-use Rattle.vote.specs.Boards.{is_started, starting_with}
-use Rattle.vote.specs.Turns.{position_after, turn, turn_in}
+use Rattle.vote.specs.Boards.{is_started}
+use Rattle.vote.specs.Turns.{position_after, turn}
 use Rattle.vote.specs.declared.board.Board.{Board}
 use Rattle.vote.specs.declared.statement.Statement.{Statement}
 use Rattle.vote.proofs.StatusLaws.{started-voting}
-use Rattle.vote.proofs.TurnLaws.{turn-estimate}
+use Rattle.vote.proofs.TurnLaws.{turn-voting, turn-estimate}
+use Rattle.vote.proofs.CallLaws.{turn-says, starts-with}
 use Rattle.vote.specs.Life.{Signs, signs-opening, signs-ballot}
 use Rattle.vote.proofs.SigningLaws.{turn-signs}
 use Rattle.vote.proofs.ProperLaws.{voting-round}
@@ -35,11 +36,11 @@ use Rattle.bench.specs.declared.bench.Bench.{Bench}
 use Rattle.bench.specs.declared.event.Event.{Event}
 use Rattle.bench.proofs.MomentLaws.{accepted, ◌then◌, once-kept, once-new}
 use Rattle.bench.proofs.HistoryLaws.{SignsNow, signed-kept}
-use Rattle.bench.proofs.FitLaws.{Ground}
-use Rattle.bench.proofs.ReplayLaws.{View, put-cases, replay, replay-signs}
+use Rattle.bench.proofs.FitLaws.{Ground, Fit}
+use Rattle.bench.proofs.ViewLaws.{View, standing_of, view, setup_of, put-cases}
+use Rattle.bench.proofs.ReplayLaws.{was-signed, replay, replay-signs}
 use Rattle.bench.proofs.AcceptedLaws.{Accepted}
-use Rattle.bench.proofs.SquareLaws.{standing_of, view, setup_of, turn-says}
-use Rattle.bench.proofs.InvariantLaws.{Fit, lawful}
+use Rattle.bench.proofs.SquareLaws.{lawful}
 use Rattle.bench.proofs.TellsLaws.{Tells}
 
 pub record Rooted (L : Limits) (S : Setup) (H : History) (V : View) : Type 0 where
@@ -63,8 +64,8 @@ estimate-cases : (L : Limits) (n k : ℕ) (t : Standing) (e : Event) → let v =
     (v ≡ t.position.estimate)
     ⊎ (((e.kind ≡ proposing) × (v ≡ e.value))
     ⊎ ((e.kind ≡ turning) × (v ≡ (position_after L (move_of L n k t) t.position).estimate)))
-unfolding believing starting_with
-estimate-cases L n k t e = grind (arith, nat_tests)
+unfolding believing
+estimate-cases L n k t e = let p = starts-with t.position e.value in grind (arith, nat_tests)
 
 module _ {L : Limits} {H : History} {c : Bench} (g : Ground L (setup_of c)) (f : Fit L c) (y : Tells L (setup_of c) H (view L c))
     (o : Rooted L (setup_of c) H (view L c)) where
@@ -79,7 +80,7 @@ module _ {L : Limits} {H : History} {c : Bench} (g : Ground L (setup_of c)) (f :
       p = coordinator c.n r
 
       signed : signed_by L c p (identifier_of L Opening r) ≡ entry_of v
-      signed = let q = f.sane.part k p (identifier_of L Opening r) in grind arith
+      signed = was-signed f.sane k p (identifier_of L Opening r) v e
 
       go : (is_round L r ≡ true) ⊎ (is_round L r ≡ false) → (is_sound c p ≡ true) ⊎ (is_sound c p ≡ false) → Origin L S H v
       go (inl i) (inl s) = o.openings p r v s i signed
@@ -105,8 +106,7 @@ module _ {L : Limits} {H : History} {c : Bench} (g : Ground L (setup_of c)) (f :
     kept-estimate s v i n = rw i (origin-kept L S H (accepted e) _ (o.estimates e.a s (λ z. n (i ∙ z))))
 
     turn-goes : e.kind ≡ turning → (turn L c.n e.a b).board.position ≡ position_after L (move_of L c.n e.a (standing_of L b)) b.position
-    unfolding turn turn_in
-    turn-goes k = let v = acc.voting k in grind arith
+    turn-goes k = ap (λ x. x.board.position) (turn-voting L c.n e.a b (acc.voting k))
 
     turn-origin : e.kind ≡ turning → Sound L S e.a → (v : ℕ) → v ≡ (turn L c.n e.a b).board.position.estimate → (v ≡ 0 → ⊥) → Origin L S H' v
     turn-origin k s v i n =

@@ -9,14 +9,17 @@ use lib.ListN.{length-replicate}
 use Rattle.signer.specs.Log.{entry_at}
 use Rattle.signer.specs.Signer.{fresh_signer}
 use Rattle.signer.specs.declared.signer.Signer.{Signer}
-use Rattle.signer.proofs.LogLaws.{entry-empty}
 use Rattle.signer.proofs.SignerLaws.{fresh-last, fresh-wellformed}
+use Rattle.signer.proofs.GrantLaws.{fresh-entry}
 use Rattle.delivery.specs.Limits.{Limits}
 use Rattle.delivery.specs.Sets.{in_set}
+use Rattle.delivery.specs.Delivered.{heard}
 use Rattle.delivery.proofs.SetLaws.{in-none}
 use Rattle.delivery.proofs.DeliveredLaws.{heard-nothing}
 use Rattle.delivery.proofs.OwedLaws.{nothing-whole, owed-nothing}
-use Rattle.vote.specs.Boards.{fresh_board, fresh_position}
+use Rattle.vote.specs.Boards.{fresh_board}
+use Rattle.vote.specs.declared.position.Position.{Position}
+use Rattle.vote.proofs.BoardLaws.{fresh-position, fresh-estimate, fresh-delivered, fresh-status}
 use Rattle.vote.specs.declared.board.Board.{Board}
 use Rattle.vote.specs.declared.board.Status.TheVariants.{Idle}
 use Rattle.vote.proofs.ProperLaws.{fresh-proper}
@@ -28,9 +31,8 @@ use Rattle.bench.specs.Claim.{Sound, Faulty, SignedInTurn, Asked, Signed, Reache
 use Rattle.bench.specs.declared.bench.Bench.{Bench}
 use Rattle.bench.proofs.BenchLaws.{board-fresh, signer-fresh}
 use Rattle.bench.proofs.MomentLaws.{once-none, standing-none}
-use Rattle.bench.proofs.ReplayLaws.{View}
-use Rattle.bench.proofs.SquareLaws.{standing_of, view}
-use Rattle.bench.proofs.InvariantLaws.{Fit}
+use Rattle.bench.proofs.ViewLaws.{View, standing_of, view}
+use Rattle.bench.proofs.FitLaws.{Fit}
 use Rattle.bench.proofs.TellsLaws.{Tells}
 use Rattle.bench.proofs.OriginLaws.{Rooted}
 use Rattle.bench.proofs.ClaimLaws.{Sure}
@@ -44,24 +46,24 @@ module _ (L : Limits) (S : Setup) where
   empty = bench_of L S.n S.sound
 
   stands-fresh : standing_of L (fresh_board L) ≡ outset
-  unfolding outset fresh_board
+  unfolding outset
   stands-fresh =
-      ap
-      (λ h. record { position = fresh_position; heard = h })
-      (fun_ext (λ (s : ℕ). fun_ext (λ (i : ℕ). heard-nothing L s i)))
+      let p = fresh-position L in
+      let q = ap (heard L) (fresh-delivered L) ∙ fun_ext (λ (s : ℕ). fun_ext (heard-nothing L s)) in
+      cc
 
   sees-nothing : view L empty ≡ nothing
-  unfolding fresh_board fresh_signer signed_by
+  unfolding signed_by
   sees-nothing =
       λ j.
       record {
         stands = fun_ext (λ (k : ℕ). ap (standing_of L) (board-fresh L S.n S.sound k) ∙ stands-fresh) j;
-        status = fun_ext (λ (k : ℕ). ap (λ (b : Board). b.status) (board-fresh L S.n S.sound k)) j;
+        status = fun_ext (λ (k : ℕ). ap (λ (b : Board). b.status) (board-fresh L S.n S.sound k) ∙ fresh-status L) j;
         signed =
             fun_ext
             (λ (k : ℕ).
             fun_ext
-            (λ (i : ℕ). ap (λ (s : Signer). entry_at s.log i) (signer-fresh L S.n S.sound k) ∙ entry-empty L.identifiers i))
+            (λ (i : ℕ). ap (λ (s : Signer). entry_at s.log i) (signer-fresh L S.n S.sound k) ∙ fresh-entry L.identifiers i))
             j;
       }
 
@@ -97,9 +99,12 @@ module _ (L : Limits) (S : Setup) where
       }
 
   rooted-nothing : Rooted L S [] nothing
-  unfolding outset fresh_position
+  unfolding outset
   rooted-nothing =
-      record { estimates = λ k s n. absurd (n refl); openings = λ k r v s i e. absurd (omega (arith, e)) }
+      record {
+        estimates = λ k s n. absurd (n (ap (λ (p : Position). p.estimate) (sym (fresh-position L)) ∙ fresh-estimate L));
+        openings = λ k r v s i e. absurd (omega (arith, e));
+      }
 
   fresh-fit : Fit L empty
   unfolding bench_of outset
@@ -113,7 +118,7 @@ module _ (L : Limits) (S : Setup) where
         formed = λ k. rw (signer-fresh L S.n S.sound k) (fresh-wellformed L.identifiers);
         apart = λ k f. board-fresh L S.n S.sound k;
         ahead = λ k t. let z = ap (λ (x : Signer). x.last.0) (signer-fresh L S.n S.sound k) ∙ fresh-last L.identifiers in omega (arith, z);
-        owed =
+        spread =
             λ k s i. (
               λ h. absurd (true≢false (sym h ∙ ap (λ (m : ℕ). in_set m k) (owed-nothing L s i) ∙ in-none k)),
               λ l. absurd (l.holder-has (heard-fresh l.holder s i)),

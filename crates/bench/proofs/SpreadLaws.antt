@@ -1,22 +1,24 @@
--- Copies are owed to the sound boards that lack a statement which a sound board has, and an accepted event keeps it so.
--- Assumes nothing.
+-- Copies are owed to the sound boards that lack a statement which a sound board has; and they are so once a board hears a
+-- statement that is new to it. No bench is looked at. Assumes nothing.
 use Prim.Native.Nat.{ℕ, ◌≤◌}
 use native.Mathlib.Omega.{arith}
 use native.Mathlib.Decide.{ℕ_discrete}
-use mathlib.Core.Path.{◌≡◌, subst, ◌∙◌, fun_ext}
-use mathlib.Core.Bool.{true}
-use lib.Dec.{eqb}
+use mathlib.Core.Path.{◌≡◌, refl, subst, ◌∙◌, fun_ext}
+use mathlib.Core.Bool.{true, false}
 use mathlib.Core.Logic.{◌⊎◌, inr, ⊎_elim, ◌↔◌}
+use lib.Dec.{eqb}
 use Rattle.std.proofs.lemmas.Bool.Decides.{nat_tests}
 use Rattle.signer.specs.Log.{is_identifier}
-use Rattle.delivery.specs.Tests.{◌and◌, ◌or◌, neg}
+use Rattle.delivery.specs.Tests.{neg}
 use Rattle.delivery.specs.Limits.{Limits}
 use Rattle.delivery.specs.Bus.{is_board}
 use Rattle.delivery.specs.Sets.{in_set, bits}
-use Rattle.delivery.specs.Owed.{receivers, lacks, after_signing, after_delivery}
+use Rattle.delivery.specs.Delivered.{Store}
+use Rattle.delivery.specs.Owed.{receivers, after_signing, after_delivery}
+use Rattle.delivery.specs.Claims.{Lacks}
 use Rattle.delivery.specs.declared.owed.Owed.{Owed}
-use Rattle.delivery.proofs.SetLaws.{in-set_of-within, in-set_of-passes}
-use Rattle.delivery.proofs.OwedLaws.{Whole, signing-here, delivery-here}
+use Rattle.delivery.proofs.OwedLaws.{Whole, signing-there, delivery-there}
+use Rattle.delivery.proofs.EchoLaws.{Wants, signing-owes, delivery-owes}
 
 -- board k lacks what s said, by the entries that each board has of it, and a sound board has it
 pub record Lacking (sound : ℕ) (has : ℕ → ℕ) (k s : ℕ) : Type 0 where
@@ -27,76 +29,87 @@ pub record Lacking (sound : ℕ) (has : ℕ → ℕ) (k s : ℕ) : Type 0 where
   pub holder-sound : in_set sound holder ≡ true
   pub holder-has : has holder ≡ 0 → ⊥
 
--- board a newly hears what s₀ said under i₀
-module _ (sound : ℕ) (h h' : ℕ → ℕ → ℕ → ℕ) (R R' : ℕ → ℕ → ℕ → Type 0) (a s₀ i₀ : ℕ) (a-sound : in_set sound a ≡ true)
-    (old : (k s i : ℕ) → R k s i ↔ Lacking sound (λ j. h j s i) k s)
-    (there : (k s i : ℕ) → (s ≡ s₀ → i ≡ i₀ → ⊥) → R' k s i ↔ R k s i)
-    (here : (k : ℕ) → R' k s₀ i₀
-    ↔ ((k ≡ a → ⊥) × (R k s₀ i₀ ⊎ ((in_set sound k ≡ true) × (k ≡ s₀ → ⊥) × (h k s₀ i₀ ≡ 0)))))
-    (now : (k s i : ℕ) → (h' k s i ≡ h k s i) ⊎ ((k ≡ a) × (s ≡ s₀) × (i ≡ i₀)))
-    (new : h' a s₀ i₀ ≡ 0 → ⊥) where
-  at : (k : ℕ) → R' k s₀ i₀ ↔ Lacking sound (λ j. h' j s₀ i₀) k s₀
-  at k = (
-    λ t.
-        let p = (here k).0 t in
-        let q : (in_set sound k ≡ true) × (k ≡ s₀ → ⊥) × (h k s₀ i₀ ≡ 0) =
-        ⊎_elim (λ (r : R k s₀ i₀). let l = (old k s₀ i₀).0 r in (l.is-sound, l.other, l.not-heard)) (λ r. r) p.1 in
-        record {
-          is-sound = q.0;
-          other = q.1;
-          not-heard = ⊎_elim (λ n. n ∙ q.2) (λ n. absurd (p.0 n.0)) (now k s₀ i₀);
-          holder = a;
-          holder-sound = a-sound;
-          holder-has = new;
-        },
+-- copies are owed just to these, where h is what each board has heard
+abbrev pub Spread : Limits → ℕ → Owed → (ℕ → Store) → Type 0
+Spread L sound o h = (k s i : ℕ) → (in_set (receivers L o s i) k ≡ true) ↔ Lacking sound (λ (j : ℕ). h j s i) k s
+
+-- Sound board a hears what s said under i, which is new to it, and nothing else is heard: h' are the entries then, and `have`
+-- are the boards that had heard it.
+pub record Heard (sound a s i have : ℕ) (h h' : ℕ → Store) : Type 0 where
+  pub a-sound : in_set sound a ≡ true
+  pub range : (k : ℕ) → in_set sound k ≡ true → (1 ≤ k) × (k ≤ bits) × (in_set have k ≡ neg (eqb (h k s i) 0))
+  pub only : (k s' i' : ℕ) → (h' k s' i' ≡ h k s' i') ⊎ ((k ≡ a) × (s' ≡ s) × (i' ≡ i))
+  pub new : h' a s i ≡ 0 → ⊥
+
+module _ {L : Limits} {o : Owed} {sound a s i have : ℕ} {h h' : ℕ → Store} (w : Whole L o) (b : is_board L s ≡ true)
+    (d : is_identifier L.identifiers i ≡ true) (n : Heard sound a s i have h h') (old : Spread L sound o h) where
+  -- who lacks the statement then has lacked it, and is not a
+  abbrev Lacked : ℕ → Type 0
+  Lacked k = (in_set sound k ≡ true) × (k ≡ s → ⊥) × (h k s i ≡ 0)
+
+  lacking-lacked : (k : ℕ) → Lacking sound (λ j. h' j s i) k s ↔ ((k ≡ a → ⊥) × Lacked k)
+  lacking-lacked k = (
     λ l.
-        let d : k ≡ a → ⊥ = λ (m : k ≡ a). new (subst (λ (j : ℕ). h' j s₀ i₀ ≡ 0) m l.not-heard) in
-        (here k).1 (d, inr (l.is-sound, l.other, grind (arith, now k s₀ i₀, l.not-heard))),
+        let z = n.only k s i in
+        let not : k ≡ a → ⊥ = λ (m : k ≡ a). n.new (subst (λ (j : ℕ). h' j s i ≡ 0) m l.not-heard) in
+        (not, (l.is-sound, l.other, grind (arith, z, not, l.not-heard))),
+    λ l.
+        record {
+          is-sound = l.1.0;
+          other = l.1.1;
+          not-heard = ⊎_elim (λ z. z ∙ l.1.2) (λ z. absurd (l.0 z.0)) (n.only k s i);
+          holder = a;
+          holder-sound = n.a-sound;
+          holder-has = n.new;
+        },
   )
 
-  apart : (k s i : ℕ) → (s ≡ s₀ → i ≡ i₀ → ⊥) → R' k s i ↔ Lacking sound (λ j. h' j s i) k s
-  apart k s i n =
-      let same : (λ (j : ℕ). h' j s i) ≡ (λ (j : ℕ). h j s i) =
-      fun_ext (λ (j : ℕ). ⊎_elim (λ e. e) (λ (e : (j ≡ a) × (s ≡ s₀) × (i ≡ i₀)). absurd (n e.1 e.2)) (now j s i)) in
-      rw same (λ t. (old k s i).0 ((there k s i n).0 t), λ l. (there k s i n).1 ((old k s i).1 l))
-
-  pub spread : (k s i : ℕ) → R' k s i ↔ Lacking sound (λ j. h' j s i) k s
-  spread k s i = go (ℕ_discrete s s₀) (ℕ_discrete i i₀)
+  wants-lacked : (k : ℕ) → Wants L o s i sound have w b d k ↔ Lacked k
+  unfolding neg
+  wants-lacked k = (
+    λ t. ⊎_elim (λ r. let l = (old k s i).0 r in (l.is-sound, l.other, l.not-heard)) lacks t.2,
+    λ l.
+        let r = n.range k l.0 in
+        (r.0, r.1, inr (record { is-sound = l.0; other = l.1; has-not = r.2 ∙ rw l.2 none })),
+  )
     where
-      go : Dec (s ≡ s₀) → Dec (i ≡ i₀) → R' k s i ↔ Lacking sound (λ j. h' j s i) k s
-      go (yes p) (yes q) = rw (p, q) (at k)
-      go (yes p) (no q) = apart k s i (λ _ z. q z)
-      go (no p) q = apart k s i (λ z _. p z)
+      none : neg (eqb 0 0) ≡ false
+      none = refl
 
--- Who is owed a copy after a signature and after a delivery, where `have` are those that have heard the statement, by the
--- entries that each board has of it
-module _ (L : Limits) (o : Owed) (s i sound have : ℕ) (has : ℕ → ℕ) (w : Whole L o) (b : is_board L s ≡ true)
-    (d : is_identifier L.identifiers i ≡ true)
-    (range : (k : ℕ) → in_set sound k ≡ true → (1 ≤ k) × (k ≤ bits) × (in_set have k ≡ neg (eqb (has k) 0)))
-    (old : (k : ℕ) → in_set (receivers L o s i) k ≡ true → in_set sound k ≡ true) where
-  abbrev Owes : ℕ → Type 0
-  Owes k = (in_set (receivers L o s i) k ≡ true) ⊎ ((in_set sound k ≡ true) × (k ≡ s → ⊥) × (has k ≡ 0))
+      lacks : Lacks sound have s k → Lacked k
+      lacks l = let r = n.range k l.is-sound in let z = l.has-not in (l.is-sound, l.other, grind (arith, nat_tests, r.2, z))
 
-  pub signing-owed : (k : ℕ) → (in_set (receivers L (after_signing L o s i sound have) s i) k ≡ true) ↔ Owes k
-  unfolding lacks ◌and◌ ◌or◌ neg
-  signing-owed k =
-      let here = signing-here L o s i sound have w b d in
-      let r = range k in
-      let q = old k in
-      rw here (
-        λ t. let p = in-set_of-passes bits _ k t in grind (arith, nat_tests),
-        λ t. let p = in-set_of-within bits (λ (k : ℕ). in_set (receivers L o s i) k or lacks sound have s k) k in grind (arith, nat_tests),
-      )
+  -- of another statement all is as it was
+  others : {R : Type 0} (k s' i' : ℕ) → (s' ≡ s → i' ≡ i → ⊥) → R ↔ (in_set (receivers L o s' i') k ≡ true)
+      → R ↔ Lacking sound (λ j. h' j s' i') k s'
+  others k s' i' f r =
+      let same : (λ (j : ℕ). h' j s' i') ≡ (λ (j : ℕ). h j s' i') =
+      fun_ext (λ (j : ℕ). ⊎_elim (λ e. e) (λ (e : (j ≡ a) × (s' ≡ s) × (i' ≡ i)). absurd (f e.1 e.2)) (n.only j s' i')) in
+      rw same (λ t. (old k s' i').0 (r.0 t), λ l. r.1 ((old k s' i').1 l))
 
-  pub delivery-owed : (j k : ℕ) → (in_set (receivers L (after_delivery L o j s i sound have) s i) k ≡ true) ↔ ((k ≡ j → ⊥) × Owes k)
-  unfolding lacks ◌and◌ ◌or◌ neg
-  delivery-owed j k =
-      let here = delivery-here L o j s i sound have w b d in
-      let r = range k in
-      let q = old k in
-      rw here (
-        λ t. let p = in-set_of-passes bits _ k t in grind (arith, nat_tests),
-        λ t.
-            let p = in-set_of-within bits (λ (k : ℕ). neg (eqb k j) and (in_set (receivers L o s i) k or lacks sound have s k)) k in
-            grind (arith, nat_tests),
-      )
+  every : {R : ℕ → ℕ → ℕ → Type 0} → ((k : ℕ) → R k s i ↔ ((k ≡ a → ⊥) × Lacked k))
+      → ((k s' i' : ℕ) → (s' ≡ s → i' ≡ i → ⊥) → R k s' i' ↔ (in_set (receivers L o s' i') k ≡ true))
+      → (k s' i' : ℕ) → R k s' i' ↔ Lacking sound (λ j. h' j s' i') k s'
+  every {R = R} here there k s' i' = go (ℕ_discrete s' s) (ℕ_discrete i' i)
+    where
+      go : Dec (s' ≡ s) → Dec (i' ≡ i) → R k s' i' ↔ Lacking sound (λ j. h' j s' i') k s'
+      go (yes p) (yes q) = rw (p, q) (λ t. (lacking-lacked k).1 ((here k).0 t), λ l. (here k).1 ((lacking-lacked k).0 l))
+      go (yes p) (no q) = others k s' i' (λ _ z. q z) (there k s' i' (λ _ z. q z))
+      go (no p) q = others k s' i' (λ z _. p z) (there k s' i' (λ z _. p z))
+
+  -- so it is after a delivery to a, and after a signature of a
+  pub delivery-spreads : Spread L sound (after_delivery L o a s i sound have) h'
+  delivery-spreads =
+      every
+      (λ k.
+      let p = delivery-owes L o s i sound have w b d k a in
+      (λ t. let q = p.0 t in (q.0, (wants-lacked k).0 q.1), λ t. p.1 (t.0, (wants-lacked k).1 t.1)))
+      (λ k s' i' f. rw (delivery-there L o a s i sound have s' i' f) (λ t. t, λ t. t))
+
+  pub signing-spreads : a ≡ s → Spread L sound (after_signing L o s i sound have) h'
+  signing-spreads m =
+      every
+      (λ k.
+      let p = signing-owes L o s i sound have w b d k in
+      (λ t. let q = (wants-lacked k).0 (p.0 t) in ((λ z. q.1 (z ∙ m)), q), λ t. p.1 ((wants-lacked k).1 t.1)))
+      (λ k s' i' f. rw (signing-there L o s i sound have s' i' f) (λ t. t, λ t. t))

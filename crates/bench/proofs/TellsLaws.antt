@@ -15,7 +15,8 @@ use Rattle.bench.specs.Story.{Entry, History, standing_after, after_entry}
 use Rattle.bench.specs.Claim.{Sound, Signed, Delivered, Decided}
 use Rattle.bench.specs.declared.event.Event.{Event}
 use Rattle.bench.proofs.MomentLaws.{accepted, ◌then◌, standing-last}
-use Rattle.bench.proofs.ReplayLaws.{View, put, Lawful, Sane, replay, replay-signs, replay-delivers, replay-decides}
+use Rattle.bench.proofs.ViewLaws.{View, put}
+use Rattle.bench.proofs.ReplayLaws.{Lawful, Sane, replay, replay-signs, replay-delivers, replay-decides}
 use Rattle.bench.proofs.HistoryLaws.{signed-more, delivered-more, decided-more}
 
 pub record Tells (L : Limits) (S : Setup) (H : History) (V : View) : Type 0 where

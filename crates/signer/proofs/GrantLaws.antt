@@ -1,7 +1,7 @@
 -- What a request that is granted leaves in the log, entry by entry. Assumes nothing.
-use Prim.Native.Nat.{ℕ}
+use Prim.Native.Nat.{ℕ, zero, suc}
 use native.Mathlib.Omega.{arith}
-use mathlib.Core.Path.{◌≡◌}
+use mathlib.Core.Path.{◌≡◌, refl}
 use mathlib.Core.Bool.{true}
 use lib.Dec.{eqb}
 use Rattle.std.specs.Prelude.{if◌then◌else◌}
@@ -27,3 +27,11 @@ granted-entry limit s i v w g j =
     let low = within_low limit i id in
     let high = within-high limit i id in
     grind (arith, nat_tests, nth-set-same, nth-set-other)
+
+-- and nothing stood there
+pub granted-new : (limit : ℕ) (s : Signer) (i : ℕ) → WellFormed limit s → grants limit s i ≡ true → entry_at s.log i ≡ 0
+granted-new limit s i w g = go (entry_at s.log i) refl
+  where
+    go : (x : ℕ) → entry_at s.log i ≡ x → entry_at s.log i ≡ 0
+    go zero e = e
+    go (suc v) e = absurd (omega (arith, w.capped i v e, (grants-only limit s i g).1))

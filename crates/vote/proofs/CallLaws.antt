@@ -19,6 +19,7 @@ use Rattle.vote.specs.Announcements.{announce}
 use Rattle.vote.specs.Rule.{rule}
 use Rattle.vote.specs.Turns.{position_after, status_after, said_in, hears_own, turn_in, turn}
 use Rattle.vote.specs.Calls.{Call, proposal, own_turn, delivery, announcement, suspicion, restored-trust, called}
+use Rattle.vote.specs.declared.position.Position.{Position}
 use Rattle.vote.specs.declared.rule.Move.{Move}
 use Rattle.vote.specs.declared.statement.Statement.{Statement}
 use Rattle.vote.specs.declared.board.Board.{Board}
@@ -72,6 +73,11 @@ module _ (L : Limits) (n me : ℕ) (b : Board) where
   pub says-own : IfSome (turn L n me b).signed (λ (s : Statement). s.speaker ≡ me)
   unfolding turn turn_in said_in
   says-own = grind arith
+
+-- a board that starts has the value that was proposed to it as its estimate
+pub starts-with : (p : Position) (v : ℕ) → (starting_with p v).estimate ≡ v
+unfolding starting_with
+starts-with p v = grind arith
 
 -- a statement that is new to what was delivered, and for which there is a place
 pub record New (L : Limits) (d : Delivered) (s i : ℕ) : Type 0 where
