@@ -4,7 +4,7 @@ use native.Mathlib.Omega.{arith}
 use mathlib.Core.Path.{◌≡◌}
 use mathlib.Core.Bool.{true, false}
 use lib.Dec.{eqb}
-use Rattle.std.specs.Prelude.{Option, None, Some, IfSome, if◌then◌else◌}
+use Rattle.std.specs.Prelude.{Option, None, Some, Ok, IfSome, if◌then◌else◌}
 use Rattle.std.proofs.lemmas.Bool.Decides.{nat_tests}
 use Rattle.signer.specs.Log.{is_identifier, entry_of}
 use Rattle.delivery.specs.Tests.{◌and◌, ◌or◌}
@@ -17,10 +17,11 @@ use Rattle.delivery.proofs.DeliveredLaws.{Whole, deliver-same, deliver-other}
 use Rattle.vote.specs.Boards.{is_started, decision_of, with_status, starting_with, propose, hears, deliver_to, with_suspected, suspecting, suspect, trust}
 use Rattle.vote.specs.Announcements.{announce}
 use Rattle.vote.specs.Rule.{rule}
-use Rattle.vote.specs.Turns.{position_after, status_after, said_in, hears_own, turn_in, turn}
+use Rattle.vote.specs.Turns.{position_after, status_after, said_in, hears_own, answer_to, turn_in, turn}
 use Rattle.vote.specs.Calls.{Call, proposal, own_turn, delivery, announcement, suspicion, restored-trust, called}
 use Rattle.vote.specs.declared.position.Position.{Position}
 use Rattle.vote.specs.declared.rule.Move.{Move}
+use Rattle.vote.specs.declared.rule.Move.TheVariants.{Waits}
 use Rattle.vote.specs.declared.statement.Statement.{Statement}
 use Rattle.vote.specs.declared.board.Board.{Board}
 use Rattle.vote.specs.declared.board.Status.TheVariants.{Voting, Decided}
@@ -99,3 +100,8 @@ own-none L d = grind arith
 pub own-some : (L : Limits) (d : Delivered) (s : Statement) → hears_own L d (Some s) ≡ hears L d s
 unfolding hears_own
 own-some L d s = grind arith
+
+-- a move other than waiting is answered as done
+pub answer-done : (m : Move) → (m ≡ Waits → ⊥) → answer_to m ≡ Ok tt
+unfolding answer_to
+answer-done m f = grind arith
