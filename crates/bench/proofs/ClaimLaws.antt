@@ -5,7 +5,7 @@ use native.Mathlib.Omega.{arith}
 use mathlib.Core.Path.{◌≡◌, refl, sym, ap, subst, subst⁻¹, ◌∙◌}
 use mathlib.Core.Bool.{true, false}
 use mathlib.Core.List.{List, [], ◌∷◌, ◌++◌, append-nil, append_assoc}
-use mathlib.Core.Logic.{◌⊎◌, inl, inr, ⊎_elim, ◌↔◌}
+use mathlib.Core.Logic.{⊎_elim, ◌↔◌}
 use Rattle.signer.specs.Log.{is_identifier, entry_of}
 use Rattle.signer.proofs.LogLaws.{entry-one}
 use Rattle.signer.proofs.FromOneLaws.{within_low}
@@ -27,7 +27,7 @@ use Rattle.vote.specs.declared.board.Decision.{Decision}
 use Rattle.vote.proofs.StatusLaws.{decided-one}
 use Rattle.vote.proofs.ProperLaws.{voting-round}
 use Rattle.vote.specs.Life.{Signs, signs-opening, signs-ballot}
-use Rattle.vote.proofs.SigningLaws.{due, signs-due, turn-signs}
+use Rattle.vote.proofs.SigningLaws.{signs-due, turn-signs}
 use Rattle.bench.specs.Benches.{is_sound, board_at, signer_at, heard_by, signed_by}
 use Rattle.bench.specs.Setups.{Setup, setup, bench_of, fresh_bench, fresh_of}
 use Rattle.bench.specs.Answers.{answer_number, is_accepted}
@@ -48,7 +48,7 @@ use Rattle.bench.proofs.SquareLaws.{lawful, square}
 use Rattle.bench.proofs.SpreadLaws.{Lacking}
 use Rattle.bench.proofs.InvariantLaws.{kept, same-setup}
 use Rattle.bench.proofs.TellsLaws.{Tells, tells-refused, tells-accepted}
-use Rattle.bench.proofs.OwedLaws.{Lacks, owed-lacks, lacks-owed}
+use Rattle.bench.proofs.OwedLaws.{Lacks, owed-lacks, lacks-owed, nothing-owed}
 use Rattle.bench.proofs.OriginLaws.{Rooted, rooted-refused, opened-origin, rooted-accepted}
 use Rattle.bench.proofs.ShowLaws.{shown-decided}
 
@@ -62,7 +62,55 @@ pub record Sure (L : Limits) (S : Setup) (H : History) (c : Bench) : Type 0 wher
 abbrev entry_for : Limits → Bench → Event → Entry
 entry_for L c e = record { event = e; answer = answer_number (step_of L c e).answer }
 
--- agreement, on any bus
+module _ (L : Limits) where
+  -- one event
+  sure-accepted : (H : History) (c : Bench) (e : Event) → Ground L (setup_of c) → Sure L (setup_of c) H c → is_accepted (check_of L c e) ≡ true
+      → Sure L (setup_of c) (H then accepted e) (effect_of L c e)
+  sure-accepted H c e g y t =
+      let acc = passed-accepted L c e (accepted-passed L c e t) in
+      let q = square g y.fit acc in
+      record {
+        bus = same-setup g y.fit acc;
+        fit = kept g y.fit acc;
+        tells = subst⁻¹ (Tells L (setup_of c) (H then accepted e)) q (tells-accepted y.tells (lawful g y.fit acc) y.fit.sane);
+        rooted = subst⁻¹ (Rooted L (setup_of c) (H then accepted e)) q (rooted-accepted g y.fit y.tells y.rooted acc);
+      }
+
+  sure-refused : (S : Setup) (H : History) (c : Bench) (x : Entry) → (x.answer ≡ 0 → ⊥) → Sure L S H c → Sure L S (H then x) c
+  sure-refused S H c x n y =
+      record { bus = y.bus; fit = y.fit; tells = tells-refused y.tells x n; rooted = rooted-refused L S H (view L c) x y.rooted }
+
+  module _ (S : Setup) (g : Ground L S) where
+    sure_step : (H : History) (c : Bench) (e : Event) → Sure L S H c → Sure L S (H then entry_for L c e) (step_of L c e).bench
+    sure_step H c e y =
+        ⊎_elim
+        (λ (t : is_accepted (check_of L c e) ≡ true).
+        let q = step-accepted L c e t in
+        rw
+        (q.0, q.1)
+        (subst
+        (λ (T : Setup). Ground L T → Sure L T H c → Sure L T (H then accepted e) (effect_of L c e))
+        y.bus
+        (λ g y. sure-accepted H c e g y t)
+        g
+        y))
+        (λ (t : is_accepted (check_of L c e) ≡ false).
+        let q = step-refused L c e t in
+        subst⁻¹ (Sure L S (H then entry_for L c e)) q.0 (sure-refused S H c (entry_for L c e) q.1 y))
+        (decided (is_accepted (check_of L c e)))
+
+    -- and any list of them
+    pub sure-after : (es : List Event) (H : History) (c : Bench) → Sure L S H c
+        → Sure L S (H ++ history_of es (answers_to L c es)) (after L c es)
+    unfolding history_of answers_to after steps last_of
+    sure-after [] H c y = rw append-nil y
+    sure-after (e ∷ es) H c y =
+        subst
+        (λ (K : History). Sure L S K (after L (step_of L c e).bench es))
+        (append_assoc H (entry_for L c e ∷ []) (history_of es (answers_to L (step_of L c e).bench es)))
+        (sure-after es (H then entry_for L c e) (step_of L c e).bench (sure_step H c e y))
+
+-- the claims of any bus, of which the claim speaks as its marks have it
 record Agrees (L : Limits) (S : Setup) (H : History) (c : Bench) : Type 0 where
   agreement : (j k r r' v w : ℕ) → Decided L S H j r v → Decided L S H k r' w → v ≡ w
   one_round : (k r r' v w : ℕ) → Decided L S H k r v → Decided L S H k r' w → r ≡ r'
@@ -76,248 +124,144 @@ record Agrees (L : Limits) (S : Setup) (H : History) (c : Bench) : Type 0 where
   signs : (k : ℕ) → Sound L S k → (x : Statement) → (turn L c.n k (board_at L c k)).signed ≡ Some x
       → grants L.identifiers (signer_at L c k) x.id.0 ≡ true
 
-module _ (L : Limits) where
-  -- one event
-  sure-accepted : (H : History) (c : Bench) (e : Event) → Ground L (setup_of c) → Sure L (setup_of c) H c → is_accepted (check_of L c e) ≡ true
-      → Sure L (setup_of c) (H then accepted e) (effect_of L c e)
-  sure-accepted H c e g y t =
-      let acc = passed-accepted L c e (accepted-passed L c e t) in
-      let w = lawful g y.fit acc in
-      let q = square g y.fit acc in
-      record {
-        bus = same-setup g y.fit acc;
-        fit = kept g y.fit acc;
-        tells = subst⁻¹ (Tells L (setup_of c) (H then accepted e)) q (tells-accepted y.tells w y.fit.sane);
-        rooted = subst⁻¹ (Rooted L (setup_of c) (H then accepted e)) q (rooted-accepted g y.fit y.tells y.rooted acc);
-      }
+module _ {L : Limits} {H : History} {c : Bench} (g : Ground L (setup_of c)) (y : Sure L (setup_of c) H c) where
+  abbrev S : Setup
+  S = setup_of c
 
-  module _ (S : Setup) (g : Ground L S) where
-    sure_step : (H : History) (c : Bench) (e : Event) → Sure L S H c → Sure L S (H then entry_for L c e) (step_of L c e).bench
-    sure_step H c e y = go (decided (is_accepted (check_of L c e)))
-      where
-        go : (is_accepted (check_of L c e) ≡ true) ⊎ (is_accepted (check_of L c e) ≡ false)
-            → Sure L S (H then entry_for L c e) (step_of L c e).bench
-        go (inl t) =
-            let q = step-accepted L c e t in
-            subst⁻¹
-            (Sure L S (H then entry_for L c e))
-            q.0
-            (subst⁻¹
-            (λ (m : ℕ). Sure L S (H then record { event = e; answer = m }) (effect_of L c e))
-            q.1
-            (subst
-            (λ (T : Setup). Ground L T → Sure L T H c → Sure L T (H then accepted e) (effect_of L c e))
-            y.bus
-            (λ g y. sure-accepted H c e g y t)
-            g
-            y))
-        go (inr t) =
-            let q = step-refused L c e t in
-            subst⁻¹
-            (Sure L S (H then entry_for L c e))
-            q.0
-            (record {
-              bus = y.bus;
-              fit = y.fit;
-              tells = tells-refused y.tells (entry_for L c e) q.1;
-              rooted = rooted-refused L S H (view L c) (entry_for L c e) y.rooted;
-            })
+  -- what a board has decided has its ballots among what it heard, and so among what was signed
+  heard-won : (k r v : ℕ) → Decided L S H k r v → Won L c.n (heard_by L c k) r v
+  heard-won k r v d = (y.fit.grounded k).won (decision_of r v) ((y.tells.decided k r v).0 d).1
 
-    -- and any list of them
-    pub sure-after : (es : List Event) (H : History) (c : Bench) → Sure L S H c
-        → Sure L S (H ++ history_of es (answers_to L c es)) (after L c es)
-    unfolding history_of answers_to after steps last_of
-    sure-after [] H c y = subst⁻¹ (λ (K : History). Sure L S K c) (append-nil H) y
-    sure-after (e ∷ es) H c y =
-        subst
-        (λ (K : History). Sure L S K (after L (step_of L c e).bench es))
-        (append_assoc H (entry_for L c e ∷ []) (history_of es (answers_to L (step_of L c e).bench es)))
-        (sure-after es (H then entry_for L c e) (step_of L c e).bench (sure_step H c e y))
+  heard-signed : (k : ℕ) → Grows (heard_by L c k) (signed_by L c)
+  heard-signed k = record { keeps = λ s i z. ⊎_elim (λ e. absurd (z e)) sym (y.fit.sane.part k s i) }
 
-  module _ {H : History} {c : Bench} (g : Ground L (setup_of c)) (y : Sure L (setup_of c) H c) where
-    abbrev S : Setup
-    S = setup_of c
+  signed-won : (k r v : ℕ) → Decided L S H k r v → Won L c.n (signed_by L c) r v
+  signed-won k r v d = won-grows L c.n (heard_by L c k) (signed_by L c) (heard-signed k) r v (heard-won k r v d)
 
-    -- every board has heard a part of what was signed
-    heard-signed : (k : ℕ) → Grows (heard_by L c k) (signed_by L c)
-    heard-signed k = record { keeps = λ s i z. let p = y.fit.sane.part k s i in grind arith }
-
-    -- what a board has decided has its ballots among what it heard, and so among what was signed
-    decided-won : (k r v : ℕ) → Decided L S H k r v → Won L c.n (heard_by L c k) r v
-    decided-won k r v d = (y.fit.grounded k).won (decision_of r v) ((y.tells.decided k r v).0 d).1
-
-    signed-won : (k r v : ℕ) → Decided L S H k r v → Won L c.n (signed_by L c) r v
-    signed-won k r v d = won-grows L c.n (heard_by L c k) (signed_by L c) (heard-signed k) r v (decided-won k r v d)
-
-    sure-agreement : (j k r r' v w : ℕ) → Decided L S H j r v → Decided L S H k r' w → v ≡ w
-    sure-agreement j k r r' v w p q =
-        won-one L c.n (signed_by L c) g.some-board r v r' w (signed-won j r v p) (signed-won k r' w q)
-
-    sure-validity : (k r v : ℕ) → Decided L S H k r v → Origin L S H v
-    sure-validity k r v d =
-        opened-origin g y.fit y.tells y.rooted k r v (won-opened L c.n (heard_by L c k) g.some-board r v (decided-won k r v d)).said
-
-    -- who lacks a statement by the history lacks it on the bench
-    lacks-lacking : (k s i v : ℕ) → Lacks L S H k s i v ↔ (Lacking c.sound (λ j. heard_by L c j s i) k s × (signed_by L c s i ≡ entry_of v))
-    lacks-lacking k s i v = (
-      λ l.
-          let has : heard_by L c l.holder s i ≡ entry_of v = (y.tells.delivered l.holder s i v).0 l.holder-has in
-          let signed = was-signed y.fit.sane l.holder s i v has in (
-            record {
-              is-sound = l.is-sound;
-              other = l.other;
-              not-heard = ⊎_elim (λ z. z) (λ z. absurd (l.has-not ((y.tells.delivered k s i v).1 z))) (heard-or-not y.fit.sane k s i v signed);
-              holder = l.holder;
-              holder-sound = l.holder-has.0;
-              holder-has = λ z. omega (arith, has, z);
-            },
-            signed,
-          ),
-      λ l.
+  -- who lacks a statement by the history lacks it on the bench
+  lacks-lacking : (k s i v : ℕ) → Lacks L S H k s i v ↔ (Lacking c.sound (λ j. heard_by L c j s i) k s × (signed_by L c s i ≡ entry_of v))
+  lacks-lacking k s i v = (
+    λ l.
+        let has : heard_by L c l.holder s i ≡ entry_of v = (y.tells.delivered l.holder s i v).0 l.holder-has in
+        let signed = was-signed y.fit.sane l.holder s i v has in (
           record {
-            is-sound = l.0.is-sound;
-            other = l.0.other;
-            has-not = λ d. omega (arith, (y.tells.delivered k s i v).0 d, l.0.not-heard);
-            holder = l.0.holder;
-            holder-has = (y.tells.delivered l.0.holder s i v).1 (⊎_elim (λ z. absurd (l.0.holder-has z)) (λ z. z) (heard-or-not y.fit.sane l.0.holder s i v l.1));
+            is-sound = l.is-sound;
+            other = l.other;
+            not-heard =
+                ⊎_elim (λ z. z) (λ z. absurd (l.has-not ((y.tells.delivered k s i v).1 z))) (heard-or-not y.fit.sane k s i v signed);
+            holder = l.holder;
+            holder-sound = l.holder-has.0;
+            holder-has = λ z. omega (arith, has, z);
           },
-    )
-
-    sure-owed : (k s i v : ℕ) → Owed L S H k s i v ↔ ((in_set (receivers L c.owed s i) k ≡ true) × (signed_by L c s i ≡ entry_of v))
-    sure-owed k s i v = (
-      λ o. let l = (lacks-lacking k s i v).0 (owed-lacks L S H k s i v o) in ((y.fit.spread k s i).1 l.0, l.1),
-      λ p. lacks-owed L S H k s i v ((lacks-lacking k s i v).1 ((y.fit.spread k s i).0 p.0, p.1)),
-    )
-
-    -- what a copy is owed of was signed
-    owed-value : (k s i : ℕ) → in_set (receivers L c.owed s i) k ≡ true → (v : ℕ) × Owed L S H k s i v
-    owed-value k s i t = go (heard_by L c l.holder s i) refl
-      where
-        l : Lacking c.sound (λ j. heard_by L c j s i) k s
-        l = (y.fit.spread k s i).0 t
-
-        go : (x : ℕ) → heard_by L c l.holder s i ≡ x → (v : ℕ) × Owed L S H k s i v
-        go zero e = absurd (l.holder-has e)
-        go (suc v) e = (v, (sure-owed k s i v).1 (t, was-signed y.fit.sane l.holder s i v e))
-
-    -- where no copy is owed, what one sound board has heard every other has; and where all have, none is owed
-    all-alike : NothingOwed L S H → AllAlike L S H
-    all-alike n j k p q s i v d = ⊎_elim lacking (y.tells.delivered k s i v).1 (heard-or-not y.fit.sane k s i v signed)
-      where
-        has : heard_by L c j s i ≡ entry_of v
-        has = (y.tells.delivered j s i v).0 d
-
-        signed : signed_by L c s i ≡ entry_of v
-        signed = was-signed y.fit.sane j s i v has
-
-        lacking : heard_by L c k s i ≡ 0 → Delivered L S H k s i v
-        lacking z =
-            absurd
-            (n
-            k
-            s
-            i
-            v
-            (lacks-owed
-            L
-            S
-            H
-            k
-            s
-            i
-            v
-            (record {
-              is-sound = q;
-              other = λ (m : k ≡ s). omega (arith, subst (λ (x : ℕ). heard_by L c k x i ≡ signed_by L c x i) m (y.fit.sane.own k i q), z, signed);
-              has-not = λ x. omega (arith, (y.tells.delivered k s i v).0 x, z);
-              holder = j;
-              holder-has = d;
-            })))
-
-    nothing-owed : AllAlike L S H → NothingOwed L S H
-    nothing-owed n k s i v o =
-        let l = owed-lacks L S H k s i v o in
-        l.has-not (n l.holder k l.holder-has.0 l.is-sound s i v l.holder-has)
-
-    sure-shows : Shows L S H c
-    sure-shows =
+          signed,
+        ),
+    λ l.
+        let j = l.0.holder in
         record {
-          decided =
-              λ k r v.
-              let w = shown-decided L c k r v (λ t. g.members k t) in
-              (λ d. w.1 ((y.tells.decided k r v).0 d), λ e. (y.tells.decided k r v).1 (w.0 e));
-          delivered = y.tells.delivered;
-          signed = y.tells.signed;
-          owed = sure-owed;
-          no_more = owed-value;
-        }
+          is-sound = l.0.is-sound;
+          other = l.0.other;
+          has-not = λ d. omega (arith, (y.tells.delivered k s i v).0 d, l.0.not-heard);
+          holder = j;
+          holder-has =
+              (y.tells.delivered j s i v).1 (⊎_elim (λ z. absurd (l.0.holder-has z)) (λ z. z) (heard-or-not y.fit.sane j s i v l.1));
+        },
+  )
 
-    -- what a sound board says in its turn its signer signs
-    sure-signs : (k : ℕ) → is_sound c k ≡ true → (s : Statement) → (turn L c.n k (board_at L c k)).signed ≡ Some s
-        → grants L.identifiers (signer_at L c k) s.id.0 ≡ true
-    sure-signs k t s e =
-        let w = turn-signs L c.n k (board_at L c k) s e in
-        let o : s.id.0 ≡ due L (board_at L c k) = signs-due L c.n k (board_at L c k) s w in
-        let i = identified w in
-        grants-above
-        L.identifiers
-        (signer_at L c k)
-        s.id.0
-        i
-        (omega (arith, o, y.fit.ahead k t, within_low L.identifiers s.id.0 i))
-      where
-        identified : Signs L c.n k (board_at L c k) s → is_identifier L.identifiers s.id.0 ≡ true
-        identified (signs-opening v q m j) =
-            subst
-            (λ (x : Statement). is_identifier L.identifiers x.id.0 ≡ true)
-            j
-            (identifier-within L Opening _ g.identifiers-enough (voting-round L (board_at L c k) (y.fit.proper k) v))
-        identified (signs-ballot v q j) =
-            subst
-            (λ (x : Statement). is_identifier L.identifiers x.id.0 ≡ true)
-            j
-            (identifier-within L Ballot _ g.identifiers-enough (voting-round L (board_at L c k) (y.fit.proper k) v))
+  owed-shown : (k s i v : ℕ) → Owed L S H k s i v ↔ ((in_set (receivers L c.owed s i) k ≡ true) × (signed_by L c s i ≡ entry_of v))
+  owed-shown k s i v = (
+    λ o. let l = (lacks-lacking k s i v).0 (owed-lacks o) in ((y.fit.spread k s i).1 l.0, l.1),
+    λ p. lacks-owed ((lacks-lacking k s i v).1 ((y.fit.spread k s i).0 p.0, p.1)),
+  )
 
-    -- a board has decided in one round, and signed one value under an identifier; what was delivered was signed
-    sure-round : (k r r' v w : ℕ) → Decided L S H k r v → Decided L S H k r' w → r ≡ r'
-    sure-round k r r' v w p q =
-        ap
-        (λ (d : Decision). d.round.0)
-        (decided-one (decision_of r v) (decision_of r' w) (sym ((y.tells.decided k r v).0 p).1 ∙ ((y.tells.decided k r' w).0 q).1))
+  -- what a copy is owed of was signed
+  owed-value : (k s i : ℕ) → in_set (receivers L c.owed s i) k ≡ true → (v : ℕ) × Owed L S H k s i v
+  owed-value k s i t = go (heard_by L c l.holder s i) refl
+    where
+      l : Lacking c.sound (λ j. heard_by L c j s i) k s
+      l = (y.fit.spread k s i).0 t
 
-    sure-once : (k i v w : ℕ) → Signed L S H k i v → Signed L S H k i w → v ≡ w
-    sure-once k i v w p q = entry-one v w (sym ((y.tells.signed k i v).0 p) ∙ (y.tells.signed k i w).0 q)
+      go : (x : ℕ) → heard_by L c l.holder s i ≡ x → (v : ℕ) × Owed L S H k s i v
+      go zero e = absurd (l.holder-has e)
+      go (suc v) e = (v, (owed-shown k s i v).1 (t, was-signed y.fit.sane l.holder s i v e))
 
-    sure-integrity : (k s i v : ℕ) → Delivered L S H k s i v → Signed L S H s i v
-    sure-integrity k s i v d = (y.tells.signed s i v).1 (was-signed y.fit.sane k s i v ((y.tells.delivered k s i v).0 d))
+  -- where no copy is owed, what one sound board has heard every other has
+  all-alike : NothingOwed L S H → AllAlike L S H
+  all-alike n j k p q s i v d = ⊎_elim (λ z. absurd (n k s i v (lacks-owed (lacks z)))) (y.tells.delivered k s i v).1 (heard-or-not y.fit.sane k s i v signed)
+    where
+      signed : signed_by L c s i ≡ entry_of v
+      signed = was-signed y.fit.sane j s i v ((y.tells.delivered j s i v).0 d)
 
-    -- a board stands where the story has it
-    sure-stands : (k : ℕ) → let t = standing_after L S.n k H in
-        ((board_at L c k).position ≡ t.position) × ((s i : ℕ) → heard_by L c k s i ≡ t.heard s i)
-    sure-stands k = (
-      ap (λ (t : Standing). t.position) (sym (y.tells.stands k)),
-      λ s i. ap (λ (t : Standing). t.heard s i) (sym (y.tells.stands k)),
-    )
+      lacks : heard_by L c k s i ≡ 0 → Lacks L S H k s i v
+      lacks z =
+          record {
+            is-sound = q;
+            other = λ (m : k ≡ s). omega (arith, rw m at (y.fit.sane.own k i q), rw m at z, signed);
+            has-not = λ x. omega (arith, (y.tells.delivered k s i v).0 x, z);
+            holder = j;
+            holder-has = d;
+          }
 
-    all-agrees : Agrees L S H c
-    all-agrees =
-        record {
-          agreement = sure-agreement;
-          one_round = sure-round;
-          validity = sure-validity;
-          one_value = sure-once;
-          integrity = sure-integrity;
-          owed = (all-alike, nothing-owed);
-          shows = sure-shows;
-          stands = λ k _. sure-stands k;
-          signs = sure-signs;
-        }
+  -- what a sound board says in its turn its signer signs
+  identified : (k : ℕ) (s : Statement) → Signs L c.n k (board_at L c k) s → is_identifier L.identifiers s.id.0 ≡ true
+  identified k s (signs-opening v q m j) =
+      rw (← j) (identifier-within L Opening _ g.identifiers-enough (voting-round L (board_at L c k) (y.fit.proper k) v))
+  identified k s (signs-ballot v q j) =
+      rw (← j) (identifier-within L Ballot _ g.identifiers-enough (voting-round L (board_at L c k) (y.fit.proper k) v))
+
+  signer-grants : (k : ℕ) → is_sound c k ≡ true → (s : Statement) → (turn L c.n k (board_at L c k)).signed ≡ Some s
+      → grants L.identifiers (signer_at L c k) s.id.0 ≡ true
+  signer-grants k t s e =
+      let w = turn-signs L c.n k (board_at L c k) s e in
+      let o = signs-due L c.n k (board_at L c k) s w in
+      let i = identified k s w in
+      grants-above
+      L.identifiers
+      (signer_at L c k)
+      s.id.0
+      i
+      (omega (arith, o, y.fit.ahead k t, within_low L.identifiers s.id.0 i))
+
+  agrees : Agrees L S H c
+  agrees =
+      record {
+        agreement = λ j k r r' v w p q. won-one L c.n (signed_by L c) g.some-board r v r' w (signed-won j r v p) (signed-won k r' w q);
+        one_round =
+            λ k r r' v w p q.
+            ap
+            (λ (d : Decision). d.round.0)
+            (decided-one (decision_of r v) (decision_of r' w) (sym ((y.tells.decided k r v).0 p).1 ∙ ((y.tells.decided k r' w).0 q).1));
+        validity =
+            λ k r v d.
+            opened-origin g y.fit y.tells y.rooted k r v (won-opened L c.n (heard_by L c k) g.some-board r v (heard-won k r v d)).said;
+        one_value = λ k i v w p q. entry-one v w (sym ((y.tells.signed k i v).0 p) ∙ (y.tells.signed k i w).0 q);
+        integrity = λ k s i v d. (y.tells.signed s i v).1 (was-signed y.fit.sane k s i v ((y.tells.delivered k s i v).0 d));
+        owed = (all-alike, nothing-owed);
+        shows =
+            record {
+              decided =
+                  λ k r v.
+                  let w = shown-decided L c k r v (λ t. g.members k t) in
+                  (λ d. w.1 ((y.tells.decided k r v).0 d), λ e. (y.tells.decided k r v).1 (w.0 e));
+              delivered = y.tells.delivered;
+              signed = y.tells.signed;
+              owed = owed-shown;
+              no_more = owed-value;
+            };
+        stands =
+            λ k t. (
+              ap (λ (t : Standing). t.position) (sym (y.tells.stands k)),
+              λ s i. ap (λ (t : Standing). t.heard s i) (sym (y.tells.stands k)),
+            );
+        signs = signer-grants;
+      }
 
 -- agreement, of any bench and history of which this is sure
 pub sure-agrees : (L : Limits) (n : ℕ) (marks : List ℕ) → Ground L (setup L n marks) → (H : History) (c : Bench)
     → Sure L (setup L n marks) H c → Agreement L n marks H c
 unfolding fresh_of fresh_bench bench_of
 sure-agrees L n marks g H c y =
+    let a : Agrees L (setup L n marks) H c =
+    subst (λ (T : Setup). Ground L T → Sure L T H c → Agrees L T H c) y.bus (λ g y. agrees g y) g y in
     record {
       agreement = a.agreement;
       one_round = a.one_round;
@@ -330,6 +274,3 @@ sure-agrees L n marks g H c y =
       stands = a.stands;
       signs = a.signs;
     }
-  where
-    a : Agrees L (setup L n marks) H c
-    a = subst (λ (T : Setup). Ground L T → Sure L T H c → Agrees L T H c) y.bus (all-agrees L) g y

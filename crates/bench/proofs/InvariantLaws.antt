@@ -36,7 +36,7 @@ use Rattle.bench.specs.declared.bench.Bench.{Bench}
 use Rattle.bench.specs.declared.event.Event.{Event}
 use Rattle.bench.proofs.ViewLaws.{View, view, setup_of, put, put-cases}
 use Rattle.bench.proofs.ReplayLaws.{Sane, replay, replay-sane}
-use Rattle.bench.proofs.SpreadLaws.{Spread, Heard, delivery-spreads, signing-spreads}
+use Rattle.bench.proofs.SpreadLaws.{Spread, delivery-spreads, signing-spreads}
 use Rattle.bench.proofs.FitLaws.{Ground, is-there, Fit}
 use Rattle.bench.proofs.AcceptedLaws.{Accepted}
 use Rattle.bench.proofs.EffectLaws.{call_of, board_then, asked_for, said_then, owed_saying, each-board, each-owed, same-n, same-sound, boards-size, signers-size, owed-turning, owed-delivering, owed-kept, signers-then}

@@ -2,15 +2,16 @@
 -- board or opened by a faulty coordinator. Assumes nothing.
 use Prim.Native.Nat.{ℕ}
 use native.Mathlib.Omega.{arith}
-use mathlib.Core.Path.{◌≡◌, refl, sym, ap, subst⁻¹, ◌∙◌}
+use mathlib.Core.Path.{◌≡◌, refl, sym, ap, ◌∙◌}
 use mathlib.Core.Bool.{true, false, true≢false}
 use mathlib.Core.Logic.{◌⊎◌, inl, inr, ⊎_elim}
-use Rattle.std.specs.Prelude.{if◌then◌else◌, Some}
+use Rattle.std.specs.Prelude.{if◌then◌else◌}
 use Rattle.std.proofs.lemmas.Bool.Decides.{nat_tests}
 use Rattle.signer.specs.Log.{entry_of}
 use Rattle.signer.proofs.LogLaws.{entry-some}
 use Rattle.signer.proofs.FromOneLaws.{within_in, within-zero}
 use Rattle.delivery.specs.Limits.{Limits}
+use Rattle.delivery.specs.Acceptance.{accepts_opening}
 use Rattle.delivery.specs.Rounds.{is_round, coordinator, identifier_of}
 use Rattle.delivery.specs.declared.round.Phase.TheVariants.{Opening}
 use Rattle.delivery.proofs.TestLaws.{decided}
@@ -18,7 +19,8 @@ use Rattle.delivery.proofs.RoundLaws.{coordinator-in, identifier-none, openings-
 use Rattle.delivery.proofs.DeliveredLaws.{heard-outside}
 use Rattle.delivery.proofs.AllRoundsLaws.{opening-reads}
 use Rattle.vote.specs.Boards.{is_started}
-use Rattle.vote.specs.Turns.{position_after, turn}
+use Rattle.vote.specs.Turns.{statement_of}
+use Rattle.vote.specs.declared.board.Status.TheVariants.{Voting}
 use Rattle.vote.specs.declared.board.Board.{Board}
 use Rattle.vote.specs.declared.statement.Statement.{Statement}
 use Rattle.vote.proofs.StatusLaws.{started-voting}
@@ -27,10 +29,10 @@ use Rattle.vote.proofs.CallLaws.{turn-says, starts-with}
 use Rattle.vote.specs.Life.{Signs, signs-opening, signs-ballot}
 use Rattle.vote.proofs.SigningLaws.{turn-signs}
 use Rattle.vote.proofs.ProperLaws.{voting-round}
-use Rattle.bench.specs.Events.{proposing, turning}
+use Rattle.bench.specs.Events.{proposing}
 use Rattle.bench.specs.Benches.{is_sound, board_at, heard_by, signed_by}
 use Rattle.bench.specs.Setups.{Setup}
-use Rattle.bench.specs.Story.{Entry, History, Standing, move_of, saying, believing}
+use Rattle.bench.specs.Story.{Entry, History, believing}
 use Rattle.bench.specs.Claim.{Sound, Origin, was-proposed, was-opened}
 use Rattle.bench.specs.declared.bench.Bench.{Bench}
 use Rattle.bench.specs.declared.event.Event.{Event}
@@ -58,14 +60,6 @@ rooted-refused L S H V x o =
       estimates = λ k s n. origin-kept L S H x _ (o.estimates k s n);
       openings = λ k r v s i e. origin-kept L S H x v (o.openings k r v s i e);
     }
-
--- where an event is believed to leave a board's estimate
-estimate-cases : (L : Limits) (n k : ℕ) (t : Standing) (e : Event) → let v = (believing L n k t e).position.estimate in
-    (v ≡ t.position.estimate)
-    ⊎ (((e.kind ≡ proposing) × (v ≡ e.value))
-    ⊎ ((e.kind ≡ turning) × (v ≡ (position_after L (move_of L n k t) t.position).estimate)))
-unfolding believing
-estimate-cases L n k t e = let p = starts-with t.position e.value in grind (arith, nat_tests)
 
 module _ {L : Limits} {H : History} {c : Bench} (g : Ground L (setup_of c)) (f : Fit L c) (y : Tells L (setup_of c) H (view L c))
     (o : Rooted L (setup_of c) H (view L c)) where
@@ -102,69 +96,62 @@ module _ {L : Limits} {H : History} {c : Bench} (g : Ground L (setup_of c)) (f :
     abbrev H' : History
     H' = H then accepted e
 
-    kept-estimate : Sound L S e.a → (v : ℕ) → v ≡ b.position.estimate → (v ≡ 0 → ⊥) → Origin L S H' v
-    kept-estimate s v i n = rw i (origin-kept L S H (accepted e) _ (o.estimates e.a s (λ z. n (i ∙ z))))
+    kept-estimate : (k v : ℕ) → Sound L S k → v ≡ (board_at L c k).position.estimate → (v ≡ 0 → ⊥) → Origin L S H' v
+    kept-estimate k v s i n = rw i (origin-kept L S H (accepted e) _ (o.estimates k s (λ z. n (i ∙ z))))
 
-    turn-goes : e.kind ≡ turning → (turn L c.n e.a b).board.position ≡ position_after L (move_of L c.n e.a (standing_of L b)) b.position
-    turn-goes k = ap (λ x. x.board.position) (turn-voting L c.n e.a b (acc.voting k))
+    -- the estimate that an event leaves is as it was, was proposed, or was that of an opening that the board accepts
+    abbrev estimate : ℕ
+    estimate = (believing L c.n e.a (standing_of L b) e).position.estimate
 
-    turn-origin : e.kind ≡ turning → Sound L S e.a → (v : ℕ) → v ≡ (turn L c.n e.a b).board.position.estimate → (v ≡ 0 → ⊥) → Origin L S H' v
-    turn-origin k s v i n =
+    estimate-comes : (estimate ≡ b.position.estimate)
+        ⊎ (((e.kind ≡ proposing) × (e.value ≡ estimate))
+        ⊎ (accepts_opening L c.n (heard_by L c e.a) b.position.round.0 estimate ≡ true))
+    unfolding believing
+    estimate-comes =
+        let p = starts-with b.position e.value in
+        let t = turn-estimate L c.n e.a b in
+        let v = turn-voting L c.n e.a b in
+        let w = acc.voting in
+        grind (arith, nat_tests)
+
+    believed : Sound L S e.a → (estimate ≡ 0 → ⊥) → Origin L S H' estimate
+    believed s n =
         ⊎_elim
-        (λ q. kept-estimate s v (i ∙ q) n)
+        (λ p. kept-estimate e.a estimate s p n)
+        (⊎_elim
+        (λ q. was-proposed e.a s (once-new H e _ (record { kind = q.0; board = refl; value = q.1 })))
         (λ q.
-        rw
-        i
-        (origin-kept
+        origin-kept
         L
         S
         H
         (accepted e)
-        _
-        (opened-origin e.a b.position.round.0 _ (opening-reads L c.n (heard_by L c e.a) b.position.round.0 _ q).said)))
-        (turn-estimate L c.n e.a b)
-
-    believed : Sound L S e.a → (v : ℕ) → v ≡ (believing L c.n e.a (standing_of L b) e).position.estimate → (v ≡ 0 → ⊥) → Origin L S H' v
-    believed s v i n =
-        ⊎_elim
-        (λ p. kept-estimate s v (i ∙ p) n)
-        (λ p.
-        ⊎_elim
-        (λ q. was-proposed e.a s (once-new H e _ (record { kind = q.0; board = refl; value = sym (i ∙ q.1) })))
-        (λ q. turn-origin q.0 s v (i ∙ q.1 ∙ sym (ap (λ x. x.estimate) (turn-goes q.0))) n)
-        p)
-        (estimate-cases L c.n e.a (standing_of L b) e)
+        estimate
+        (opened-origin e.a b.position.round.0 estimate (opening-reads L c.n (heard_by L c e.a) b.position.round.0 estimate q).said)))
+        estimate-comes
 
     -- an opening that a sound board signs in its turn has its estimate
-    spoken-origin : e.kind ≡ turning → Sound L S e.a → (r v : ℕ) → is_round L r ≡ true
-        → (turn L c.n e.a b).signed ≡ Some (record { speaker = e.a; id = record { 0 = identifier_of L Opening r }; value = v })
-        → Origin L S H' v
-    spoken-origin k s r v i n = go (turn-signs L c.n e.a b _ n)
-      where
-        go : Signs L c.n e.a b (record { speaker = e.a; id = record { 0 = identifier_of L Opening r }; value = v }) → Origin L S H' v
-        go (signs-opening x q m j) =
-            let z : b.position.estimate ≡ v = ap (λ (z : Statement). z.value) j in
-            kept-estimate s v (sym z) (λ w. (f.proper e.a).estimate (ap is_started x ∙ started-voting) (z ∙ w))
-        go (signs-ballot x q j) =
-            absurd (openings-apart L r b.position.round.0 i (voting-round L b (f.proper e.a) x) (sym (ap (λ (z : Statement). z.id.0) j)))
-
     signed-origin : (k r v : ℕ) → Sound L S k → is_round L r ≡ true
         → SignsNow L S (view L c).stands e k (identifier_of L Opening r) v → Origin L S H' v
-    signed-origin k r v s i (inl (p, q)) =
-        spoken-origin
-        q.kind
-        (rw (← q.board) at s)
-        r
-        v
-        i
-        (turn-says L c.n e.a b (acc.voting q.kind)
-        ∙ subst⁻¹
-        (λ (m : ℕ).
-        saying L c.n m (standing_of L (board_at L c m))
-        ≡ Some (record { speaker = m; id = record { 0 = identifier_of L Opening r }; value = v }))
-        q.board
-        q.says)
-    signed-origin k r v s i (inr (p, q)) = absurd (true≢false (sym s ∙ p.1))
+    signed-origin k r v s i (inr p) = absurd (true≢false (sym s ∙ p.0.1))
+    signed-origin k r v s i (inl p) = go (turn-signs L c.n k (board_at L c k) _ (turn-says L c.n k (board_at L c k) votes ∙ p.1.says))
+      where
+        votes : (board_at L c k).status ≡ Voting
+        votes = rw p.1.board at (acc.voting p.1.kind)
+
+        go : Signs L c.n k (board_at L c k) (statement_of L k Opening r v) → Origin L S H' v
+        go (signs-opening x q m j) =
+            let z : (board_at L c k).position.estimate ≡ v = ap (λ (z : Statement). z.value) j in
+            kept-estimate k v s (sym z) (λ w. (f.proper k).estimate (ap is_started x ∙ started-voting) (z ∙ w))
+        go (signs-ballot x q j) =
+            absurd
+            (openings-apart
+            L
+            r
+            (board_at L c k).position.round.0
+            i
+            (voting-round L (board_at L c k) (f.proper k) x)
+            (sym (ap (λ (z : Statement). z.id.0) j)))
 
     pub rooted-accepted : Rooted L S H' (replay L S (view L c) e)
     rooted-accepted =
@@ -172,7 +159,7 @@ module _ {L : Limits} {H : History} {c : Bench} (g : Ground L (setup_of c)) (f :
           estimates =
               λ k s n.
               ⊎_elim
-              (λ q. rw q.1 (believed (rw q.0 at s) _ refl (rw q.1 at n)))
+              (λ q. rw q.1 (believed (rw q.0 at s) (rw q.1 at n)))
               (λ q. rw q.1 (origin-kept L S H (accepted e) _ (o.estimates k s (rw q.1 at n))))
               (put-cases (view L c).stands (replay L S (view L c) e).stands e.a _ (λ j. refl) k);
           openings =

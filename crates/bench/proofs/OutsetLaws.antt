@@ -4,7 +4,7 @@ use native.Mathlib.Omega.{arith}
 use mathlib.Core.Path.{◌≡◌, refl, sym, ap, ◌∙◌, fun_ext}
 use mathlib.Core.Bool.{true≢false}
 use mathlib.Core.List.{[]}
-use mathlib.Core.Logic.{⊎_elim, inl}
+use mathlib.Core.Logic.{⊎_elim, inl, inr}
 use lib.ListN.{length-replicate}
 use Rattle.signer.specs.Log.{entry_at}
 use Rattle.signer.specs.Signer.{fresh_signer}
@@ -27,7 +27,7 @@ use Rattle.vote.proofs.LifeLaws.{fresh-grounded}
 use Rattle.bench.specs.Benches.{heard_by, signed_by}
 use Rattle.bench.specs.Setups.{Setup, bench_of}
 use Rattle.bench.specs.Story.{outset}
-use Rattle.bench.specs.Claim.{Sound, Faulty, SignedInTurn, Asked, Signed, Reached, Delivered, Decided}
+use Rattle.bench.specs.Claim.{Signed, Delivered, Decided}
 use Rattle.bench.specs.declared.bench.Bench.{Bench}
 use Rattle.bench.proofs.BenchLaws.{board-fresh, signer-fresh}
 use Rattle.bench.proofs.MomentLaws.{once-none, standing-none}
@@ -73,17 +73,12 @@ module _ (L : Limits) (S : Setup) where
 
   -- nothing has happened
   not-signed : (k i v : ℕ) → Signed L S [] k i v → ⊥
-  not-signed k i v =
-      ⊎_elim
-      (λ (p : Sound L S k × SignedInTurn L S [] k i v). once-none _ p.1)
-      (λ (p : Faulty L S k × Asked L S [] k i v). once-none _ p.1)
+  not-signed k i v (inl p) = once-none _ p.1
+  not-signed k i v (inr p) = once-none _ p.1
 
   not-delivered : (k s i v : ℕ) → Delivered L S [] k s i v → ⊥
-  not-delivered k s i v p =
-      ⊎_elim
-      (λ (q : (s ≡ k) × Signed L S [] k i v). not-signed k i v q.1)
-      (λ (q : Reached L S [] k s i v). once-none _ q)
-      p.1
+  not-delivered k s i v (t, inl p) = not-signed k i v p.1
+  not-delivered k s i v (t, inr p) = once-none _ p
 
   not-decided : (k r v : ℕ) → Decided L S [] k r v → ⊥
   not-decided k r v p = ⊎_elim (once-none _) (once-none _) p.1

@@ -2,15 +2,15 @@
 use Prim.Native.Nat.{ℕ, ◌+◌, ◌≤◌, ◌<◌}
 use native.Mathlib.Decide.{dec_le}
 use native.Mathlib.Omega.{arith}
-use mathlib.Core.Path.{◌≡◌, refl, sym, ap, subst, ◌∙◌, fun_ext}
+use mathlib.Core.Path.{◌≡◌, refl, sym, ap, ◌∙◌, fun_ext}
 use mathlib.Core.Bool.{Bool, true, false, true≢false}
 use mathlib.Core.List.{List}
 use mathlib.Core.Logic.{⊎_elim}
 use lib.Dec.{eqb}
 use Rattle.signer.specs.FromOne.{is_within, nth}
 use Rattle.std.specs.Prelude.{Result, Ok, Err, if◌then◌else◌}
-use Rattle.signer.proofs.ConditionalLaws.{if-true, if-elim}
-use Rattle.signer.proofs.FromOneLaws.{within_low, within-high, within-out}
+use Rattle.signer.proofs.ConditionalLaws.{if-true}
+use Rattle.signer.proofs.FromOneLaws.{within_low, within-high, within_in, within-out}
 use Rattle.delivery.specs.Limits.{Limits, limits}
 use Rattle.delivery.specs.Bus.{is_board}
 use Rattle.delivery.specs.Counting.{every_in}
@@ -18,8 +18,7 @@ use Rattle.delivery.specs.Sets.{in_set, set_of, with_board}
 use Rattle.delivery.proofs.TestLaws.{decided, fails}
 use Rattle.delivery.proofs.CountLaws.{every-reads, reads-every}
 use Rattle.delivery.proofs.SetLaws.{in-set_of-outside, set-none, with-next}
-use Rattle.bench.specs.Setups.{is_mark, is_mark_at, is_marked_sound, Setup, fresh_answer, setup_by, setup, bench_of, fresh_bench, fresh_of}
-use Rattle.bench.specs.Answers.{setup_number, fresh_number}
+use Rattle.bench.specs.Setups.{is_mark, is_mark_at, is_marked_sound, Setup, alone, fresh_answer, setup_by, setup, bench_of, fresh_bench, fresh_of}
 use Rattle.bench.specs.declared.answer.SetupFault.{SetupFault}
 use Rattle.bench.specs.declared.answer.SetupFault.TheVariants.{NoBus, NoMark}
 use Rattle.bench.proofs.FitLaws.{Ground}
@@ -80,48 +79,31 @@ pub marks-fail : (n i : ℕ) (marks : List ℕ) → i < n → is_mark (nth marks
 unfolding is_mark_at
 marks-fail n i marks l f = fails _ (λ h. true≢false (sym (every-reads n _ h (i + 1) (omega arith) (omega arith)) ∙ f))
 
--- a bench that is made has a number of boards that there can be
-made-board : (L : Limits) (n : ℕ) (marks : List ℕ) → fresh_answer L n marks ≡ Ok tt → is_board L n ≡ true
-unfolding fresh_answer fresh_number setup_number
-made-board L n marks =
-    if-elim
-    (λ (a : Result (Unit {0}) SetupFault). a ≡ Ok tt → is_board L n ≡ true)
-    (is_board L n)
-    _
-    (Err NoBus)
-    (λ t e. t)
-    (λ f e. let z : 2 ≡ 0 = ap fresh_number e in absurd (omega (arith, z)))
-
--- and one is made for such a number, if the marks are marks
+-- a bench is made for a number of boards that there can be, if the marks are marks
 pub board-made : (L : Limits) (n : ℕ) (marks : List ℕ) → is_board L n ≡ true
     → ((k : ℕ) → 1 ≤ k → k ≤ n → is_mark (nth marks k 0) ≡ true) → fresh_answer L n marks ≡ Ok tt
 unfolding fresh_answer is_mark_at
 board-made L n marks t m = if-true _ _ _ t ∙ if-true _ _ _ (reads-every n (is_mark_at marks) m)
 
-alone-ground : (n : ℕ) (marks : List ℕ) → Ground limits (setup_by (Err NoBus) n marks)
-unfolding setup_by
-alone-ground n marks =
+-- the limits have room, and what the call asks for, or one sound board, is within them
+board-ground : (S : Setup) → is_board limits S.n ≡ true → ((k : ℕ) → in_set S.sound k ≡ true → is_within S.n k ≡ true)
+    → Ground limits S
+board-ground S t m =
     record {
       some-round = omega arith;
       identifiers-enough = omega arith;
       bits-enough = omega arith;
-      some-board = omega arith;
-      boards-enough = omega arith;
-      members = λ k t. in_within 1 all k (subst (λ (m : ℕ). in_set m k ≡ true) alone-set t);
+      some-board = within_low limits.boards S.n t;
+      boards-enough = within-high limits.boards S.n t;
+      members = m;
     }
 
 ground-by : (n : ℕ) (marks : List ℕ) (a : Result (Unit {0}) SetupFault) → (a ≡ Ok tt → is_board limits n ≡ true) → Ground limits (setup_by a n marks)
 unfolding setup_by
-ground-by n marks (Ok _) h =
-    record {
-      some-round = omega arith;
-      identifiers-enough = omega arith;
-      bits-enough = omega arith;
-      some-board = within_low limits.boards n (h refl);
-      boards-enough = within-high limits.boards n (h refl);
-      members = in_within n _;
-    }
-ground-by n marks (Err _) h = alone-ground n marks
+ground-by n marks (Ok _) h = board-ground _ (h refl) (in_within n (is_marked_sound marks))
+ground-by n marks (Err _) h =
+    board-ground alone (within_in limits.boards 1 (omega arith) (omega arith)) (λ k t. in_within 1 all k (rw alone-set at t))
 
 pub limits-ground : (n : ℕ) (marks : List ℕ) → Ground limits (setup limits n marks)
-limits-ground n marks = ground-by n marks (fresh_answer limits n marks) (made-board limits n marks)
+unfolding fresh_answer
+limits-ground n marks = ground-by n marks (fresh_answer limits n marks) (λ e. grind (arith, e))

@@ -5,7 +5,6 @@ use native.Mathlib.Omega.{arith}
 use mathlib.Core.Path.{◌≡◌}
 use mathlib.Core.Bool.{true}
 use mathlib.Core.Logic.{◌↔◌}
-use Rattle.std.specs.Prelude.{if◌then◌else◌}
 use Rattle.signer.specs.FromOne.{is_within}
 use Rattle.delivery.specs.Limits.{Limits}
 use Rattle.vote.specs.declared.position.Position.{Position}

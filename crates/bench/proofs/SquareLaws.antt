@@ -26,10 +26,10 @@ use Rattle.bench.specs.Setups.{Setup}
 use Rattle.bench.specs.Events.{turning, delivering, signing}
 use Rattle.bench.specs.Benches.{board_at, signer_at, signed_by}
 use Rattle.bench.specs.Effects.{effect_of}
-use Rattle.bench.specs.Story.{Standing, hearing, hearing_said, believing}
+use Rattle.bench.specs.Story.{hearing, hearing_said, believing}
 use Rattle.bench.specs.declared.bench.Bench.{Bench}
 use Rattle.bench.specs.declared.event.Event.{Event}
-use Rattle.bench.proofs.ViewLaws.{View, standing_of, view, setup_of, put, put-map}
+use Rattle.bench.proofs.ViewLaws.{standing_of, view, setup_of, put, put-map}
 use Rattle.bench.proofs.ReplayLaws.{status_then, signed_then, replay, Lawful}
 use Rattle.bench.proofs.AcceptedLaws.{Accepted}
 use Rattle.bench.proofs.EffectLaws.{call_of, c', board_then, asked_for, said_then, boards-then, signers-then}
