@@ -54,7 +54,7 @@ use Rattle.bench.proofs.ShowLaws.{shown-decided}
 
 pub record Sure (L : Limits) (S : Setup) (H : History) (c : Bench) : Type 0 where
   pub bus : setup_of c ≡ S
-  pub fit : Fit L c
+  pub fit : Fit L S c
   pub tells : Tells L S H (view L c)
   pub rooted : Rooted L S H (view L c)
 

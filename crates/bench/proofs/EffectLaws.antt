@@ -138,16 +138,20 @@ module _ {L : Limits} {c : Bench} {e : Event} (acc : Accepted L c e) where
   unfolding effect_of after_turn after_hearing after_saying with_board_at with_signature with_owed board_at put board_then call_of
   boards-then h k =
       let low = within_low c.n e.a acc.within in
-      let b = board_at L c e.a in
-      let proposes = called-proposal L c.n e.a b e.value in
-      let turns = called-turn L c.n e.a b in
-      let hears = called-delivery L c.n e.a b (brought e) in
-      let announces = called-announcement L c.n e.a b e.id e.value in
-      let suspects = called-suspicion L c.n e.a b e.b in
-      let trusts = called-trust L c.n e.a b e.b in
       let first = acc.low in
       let last = acc.high in
-      grind (arith, nat_tests, nth-set-same, nth-set-other)
+      grind (
+        arith,
+        nat_tests,
+        nth-set-same,
+        nth-set-other,
+        called-proposal,
+        called-turn,
+        called-delivery,
+        called-announcement,
+        called-suspicion,
+        called-trust,
+      )
 
   pub signers-then : e.a ≤ length c.signers → (k : ℕ)
       → signer_at L (c' L c e) k ≡ put (signer_at L c) e.a (asked_for L c e (signer_at L c e.a) (said_then L c e)) k

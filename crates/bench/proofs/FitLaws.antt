@@ -19,10 +19,10 @@ use Rattle.vote.specs.Boards.{fresh_board}
 use Rattle.vote.proofs.ProperLaws.{Proper}
 use Rattle.vote.proofs.SigningLaws.{due}
 use Rattle.vote.proofs.LifeLaws.{Grounded}
-use Rattle.bench.specs.Benches.{is_sound, board_at, signer_at, heard_by}
+use Rattle.bench.specs.Benches.{board_at, signer_at, heard_by}
 use Rattle.bench.specs.Setups.{Setup}
 use Rattle.bench.specs.declared.bench.Bench.{Bench}
-use Rattle.bench.proofs.ViewLaws.{view, setup_of}
+use Rattle.bench.proofs.ViewLaws.{view}
 use Rattle.bench.proofs.ReplayLaws.{Sane}
 use Rattle.bench.proofs.SpreadLaws.{Spread}
 
@@ -43,18 +43,19 @@ pub record Ground (L : Limits) (S : Setup) : Type 0 where
 pub is-there : {L : Limits} {S : Setup} → Ground L S → (k : ℕ) → is_within S.n k ≡ true → is_board L k ≡ true
 is-there {L} {S} g k w = within_in L.boards k (within_low S.n k w) (omega (arith, within-high S.n k w, g.boards-enough))
 
-pub record Fit (L : Limits) (c : Bench) : Type 0 where
+-- of a bench of the bus S
+pub record Fit (L : Limits) (S : Setup) (c : Bench) : Type 0 where
   -- it has all its boards, signers and copies
   pub boards : length c.boards ≡ L.boards
   pub signers : length c.signers ≡ L.boards
   pub complete : Whole L c.owed
   -- its boards and signers are as the crates below have them
   pub proper : (k : ℕ) → Proper L (board_at L c k)
-  pub grounded : (k : ℕ) → Grounded L c.n (board_at L c k)
+  pub grounded : (k : ℕ) → Grounded L S.n (board_at L c k)
   pub formed : (k : ℕ) → WellFormed L.identifiers (signer_at L c k)
   -- a board that is not sound takes no part, and one that is signs next above what it signed
-  pub apart : (k : ℕ) → is_sound c k ≡ false → board_at L c k ≡ fresh_board L
-  pub ahead : (k : ℕ) → is_sound c k ≡ true → (signer_at L c k).last.0 ≤ due L (board_at L c k) - 1
+  pub apart : (k : ℕ) → in_set S.sound k ≡ false → board_at L c k ≡ fresh_board L
+  pub ahead : (k : ℕ) → in_set S.sound k ≡ true → (signer_at L c k).last.0 ≤ due L (board_at L c k) - 1
   -- what is heard was signed, and copies are owed to those that lack a statement which a sound board has
-  pub sane : Sane L (setup_of c) (view L c)
-  pub spread : Spread L c.sound c.owed (heard_by L c)
+  pub sane : Sane L S (view L c)
+  pub spread : Spread L S.sound c.owed (heard_by L c)

@@ -42,7 +42,7 @@ use Rattle.bench.proofs.AcceptedLaws.{Accepted}
 use Rattle.bench.proofs.EffectLaws.{call_of, board_then, asked_for, said_then, owed_saying, each-board, each-owed, same-n, same-sound, boards-size, signers-size, owed-turning, owed-delivering, owed-kept, signers-then}
 use Rattle.bench.proofs.SquareLaws.{has-board, says-new, lawful, boards-now, square}
 
-module _ {L : Limits} {c : Bench} (g : Ground L (setup_of c)) (f : Fit L c) {e : Event} (acc : Accepted L c e) where
+module _ {L : Limits} {c : Bench} (g : Ground L (setup_of c)) (f : Fit L (setup_of c) c) {e : Event} (acc : Accepted L c e) where
   abbrev b : Board
   b = board_at L c e.a
 
@@ -188,12 +188,6 @@ module _ {L : Limits} {c : Bench} (g : Ground L (setup_of c)) (f : Fit L c) {e :
           )
       go (no k) (Some x) n = absurd (none-some x (sym (else-none t k) ∙ n))
 
-  pub same-setup : setup_of c' ≡ S
-  same-setup = let p = same-n L c e in let q = same-sound L c e in cc
-
-  same-soundness : (k : ℕ) → is_sound c' k ≡ is_sound c k
-  same-soundness k = ap (λ (m : ℕ). in_set m k) (same-sound L c e)
-
   apart-kept : (k : ℕ) → is_sound c k ≡ false → board_at L c' k ≡ fresh_board L
   unfolding board_then
   apart-kept k t = let p = boards-cases k in let q = acc.sound in let r = f.apart k t in grind (arith, nat_tests)
@@ -201,7 +195,10 @@ module _ {L : Limits} {c : Bench} (g : Ground L (setup_of c)) (f : Fit L c) {e :
   ahead-kept : (k : ℕ) → is_sound c k ≡ true → (signer_at L c' k).last.0 ≤ due L (board_at L c' k) - 1
   ahead-kept k t = let p = boards-cases k in let q = signers-cases k in let r = f.ahead k t in let u = own-ahead in grind arith
 
-  pub kept : Fit L c'
+  pub same-setup : setup_of c' ≡ S
+  same-setup = let p = same-n L c e in let q = same-sound L c e in cc
+
+  pub kept : Fit L S c'
   kept =
       record {
         boards = boards-size L c e ∙ f.boards;
@@ -216,19 +213,10 @@ module _ {L : Limits} {c : Bench} (g : Ground L (setup_of c)) (f : Fit L c) {e :
             (λ s i sound have. after-signing-whole L c.owed s i sound have f.complete)
             (λ j s i sound have. after-delivery-whole L c.owed j s i sound have f.complete);
         proper = every-board (Proper L) f.proper (called-proper L b (f.proper e.a) c.n e.a g.some-round);
-        grounded =
-            λ k.
-            subst⁻¹
-            (λ (m : ℕ). Grounded L m (board_at L c' k))
-            (same-n L c e)
-            (every-board (Grounded L c.n) f.grounded (called-grounded L c.n e.a b (f.grounded e.a)) k);
+        grounded = every-board (Grounded L c.n) f.grounded (called-grounded L c.n e.a b (f.grounded e.a));
         formed = λ k. ⊎_elim (λ z. rw z.1 (asked-formed (said_then L c e))) (λ z. rw z.1 (f.formed k)) (signers-cases k);
-        apart = λ k t. apart-kept k (sym (same-soundness k) ∙ t);
-        ahead = λ k t. ahead-kept k (sym (same-soundness k) ∙ t);
-        sane =
-            subst⁻¹
-            (λ (T : Setup). Sane L T (view L c'))
-            same-setup
-            (subst⁻¹ (Sane L S) (square g f acc) (replay-sane (lawful g f acc) f.sane));
-        spread = subst⁻¹ (λ (m : ℕ). Spread L m c'.owed (heard_by L c')) (same-sound L c e) spread-kept;
+        apart = apart-kept;
+        ahead = ahead-kept;
+        sane = subst⁻¹ (Sane L S) (square g f acc) (replay-sane (lawful g f acc) f.sane);
+        spread = spread-kept;
       }

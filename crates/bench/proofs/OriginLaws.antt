@@ -61,7 +61,7 @@ rooted-refused L S H V x o =
       openings = λ k r v s i e. origin-kept L S H x v (o.openings k r v s i e);
     }
 
-module _ {L : Limits} {H : History} {c : Bench} (g : Ground L (setup_of c)) (f : Fit L c) (y : Tells L (setup_of c) H (view L c))
+module _ {L : Limits} {H : History} {c : Bench} (g : Ground L (setup_of c)) (f : Fit L (setup_of c) c) (y : Tells L (setup_of c) H (view L c))
     (o : Rooted L (setup_of c) H (view L c)) where
   abbrev S : Setup
   S = setup_of c

@@ -101,7 +101,7 @@ module _ (L : Limits) (S : Setup) where
         openings = λ k r v s i e. absurd (omega (arith, e));
       }
 
-  fresh-fit : Fit L empty
+  fresh-fit : Fit L S empty
   unfolding bench_of outset
   fresh-fit =
       record {

@@ -82,7 +82,7 @@ module _ {L : Limits} {c : Bench} {e : Event} (acc : Accepted L c e) where
       let says = turn-says L c.n e.a b in
       grind (arith, nat_tests, granted-entry)
 
-module _ {L : Limits} {c : Bench} (g : Ground L (setup_of c)) (f : Fit L c) {e : Event} (acc : Accepted L c e) where
+module _ {L : Limits} {c : Bench} (g : Ground L (setup_of c)) (f : Fit L (setup_of c) c) {e : Event} (acc : Accepted L c e) where
   abbrev S : Setup
   S = setup_of c
 
