@@ -73,7 +73,9 @@ module _ (L : Limits) (c : Bench) (e : Event) (p : Passed L c e) where
         within = grind (arith, nat_tests);
         sound = λ k. grind (arith, nat_tests);
         faulty = λ k. grind (arith, nat_tests);
-        granted = λ k. grants-above L.identifiers (signer_at L c e.a) e.id (grind (arith, nat_tests)) (grind (arith, nat_tests));
+        granted =
+            λ k.
+            grants-above L.identifiers (signer_at L c e.a) e.id (grind (arith, nat_tests)) (grind (arith, nat_tests));
         idle = λ k. unstarted-idle (board_at L c e.a).status (grind (arith, nat_tests));
         valued = λ k z. grind (arith, nat_tests);
         voting = λ k. going-voting (board_at L c e.a).status (grind (arith, nat_tests)) (grind (arith, nat_tests));
@@ -87,6 +89,14 @@ module _ (L : Limits) (c : Bench) (e : Event) (p : Passed L c e) where
             record {
               started = grind (arith, nat_tests);
               undecided = grind (arith, nat_tests);
-              won = tally-won L c.n (heard_by L c e.a) e.id e.value (λ z. grind (arith, nat_tests)) (grind (arith, nat_tests));
+              won =
+                  tally-won
+                  L
+                  c.n
+                  (heard_by L c e.a)
+                  e.id
+                  e.value
+                  (λ z. grind (arith, nat_tests))
+                  (grind (arith, nat_tests));
             };
       }

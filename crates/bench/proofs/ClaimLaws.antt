@@ -64,24 +64,33 @@ entry_for L c e = record { event = e; answer = answer_number (step_of L c e).ans
 
 module _ (L : Limits) where
   -- one event
-  sure-accepted : (H : History) (c : Bench) (e : Event) → Ground L (setup_of c) → Sure L (setup_of c) H c → is_accepted (check_of L c e) ≡ true
+  sure-accepted : (H : History) (c : Bench) (e : Event) → Ground L (setup_of c) → Sure L (setup_of c) H c
+      → is_accepted (check_of L c e) ≡ true
       → Sure L (setup_of c) (H then accepted e) (effect_of L c e)
   sure-accepted H c e g y t =
       let acc = passed-accepted L c e (accepted-passed L c e t) in
+      let w = lawful g y.fit acc in
       let q = square g y.fit acc in
       record {
         bus = same-setup g y.fit acc;
         fit = kept g y.fit acc;
-        tells = subst⁻¹ (Tells L (setup_of c) (H then accepted e)) q (tells-accepted y.tells (lawful g y.fit acc) y.fit.sane);
+        tells = subst⁻¹ (Tells L (setup_of c) (H then accepted e)) q (tells-accepted y.tells w y.fit.sane);
         rooted = subst⁻¹ (Rooted L (setup_of c) (H then accepted e)) q (rooted-accepted g y.fit y.tells y.rooted acc);
       }
 
-  sure-refused : (S : Setup) (H : History) (c : Bench) (x : Entry) → (x.answer ≡ 0 → ⊥) → Sure L S H c → Sure L S (H then x) c
+  sure-refused : (S : Setup) (H : History) (c : Bench) (x : Entry) → (x.answer ≡ 0 → ⊥) → Sure L S H c
+      → Sure L S (H then x) c
   sure-refused S H c x n y =
-      record { bus = y.bus; fit = y.fit; tells = tells-refused y.tells x n; rooted = rooted-refused L S H (view L c) x y.rooted }
+      record {
+        bus = y.bus;
+        fit = y.fit;
+        tells = tells-refused y.tells x n;
+        rooted = rooted-refused L S H (view L c) x y.rooted;
+      }
 
   module _ (S : Setup) (g : Ground L S) where
-    sure_step : (H : History) (c : Bench) (e : Event) → Sure L S H c → Sure L S (H then entry_for L c e) (step_of L c e).bench
+    sure_step : (H : History) (c : Bench) (e : Event) → Sure L S H c
+        → Sure L S (H then entry_for L c e) (step_of L c e).bench
     sure_step H c e y =
         ⊎_elim
         (λ (t : is_accepted (check_of L c e) ≡ true).
@@ -139,16 +148,17 @@ module _ {L : Limits} {H : History} {c : Bench} (g : Ground L (setup_of c)) (y :
   signed-won k r v d = won-grows L c.n (heard_by L c k) (signed_by L c) (heard-signed k) r v (heard-won k r v d)
 
   -- who lacks a statement by the history lacks it on the bench
-  lacks-lacking : (k s i v : ℕ) → Lacks L S H k s i v ↔ (Lacking c.sound (λ j. heard_by L c j s i) k s × (signed_by L c s i ≡ entry_of v))
+  lacks-lacking : (k s i v : ℕ)
+      → Lacks L S H k s i v ↔ (Lacking c.sound (λ j. heard_by L c j s i) k s × (signed_by L c s i ≡ entry_of v))
   lacks-lacking k s i v = (
     λ l.
         let has : heard_by L c l.holder s i ≡ entry_of v = (y.tells.delivered l.holder s i v).0 l.holder-has in
-        let signed = was-signed y.fit.sane l.holder s i v has in (
+        let signed = was-signed y.fit.sane l.holder s i v has in
+        let or-not = heard-or-not y.fit.sane k s i v signed in (
           record {
             is-sound = l.is-sound;
             other = l.other;
-            not-heard =
-                ⊎_elim (λ z. z) (λ z. absurd (l.has-not ((y.tells.delivered k s i v).1 z))) (heard-or-not y.fit.sane k s i v signed);
+            not-heard = ⊎_elim (λ z. z) (λ z. absurd (l.has-not ((y.tells.delivered k s i v).1 z))) or-not;
             holder = l.holder;
             holder-sound = l.holder-has.0;
             holder-has = λ z. omega (arith, has, z);
@@ -157,17 +167,18 @@ module _ {L : Limits} {H : History} {c : Bench} (g : Ground L (setup_of c)) (y :
         ),
     λ l.
         let j = l.0.holder in
+        let or-not = heard-or-not y.fit.sane j s i v l.1 in
         record {
           is-sound = l.0.is-sound;
           other = l.0.other;
           has-not = λ d. omega (arith, (y.tells.delivered k s i v).0 d, l.0.not-heard);
           holder = j;
-          holder-has =
-              (y.tells.delivered j s i v).1 (⊎_elim (λ z. absurd (l.0.holder-has z)) (λ z. z) (heard-or-not y.fit.sane j s i v l.1));
+          holder-has = (y.tells.delivered j s i v).1 (⊎_elim (λ z. absurd (l.0.holder-has z)) (λ z. z) or-not);
         },
   )
 
-  owed-shown : (k s i v : ℕ) → Owed L S H k s i v ↔ ((in_set (receivers L c.owed s i) k ≡ true) × (signed_by L c s i ≡ entry_of v))
+  owed-shown : (k s i v : ℕ)
+      → Owed L S H k s i v ↔ ((in_set (receivers L c.owed s i) k ≡ true) × (signed_by L c s i ≡ entry_of v))
   owed-shown k s i v = (
     λ o. let l = (lacks-lacking k s i v).0 (owed-lacks o) in ((y.fit.spread k s i).1 l.0, l.1),
     λ p. lacks-owed ((lacks-lacking k s i v).1 ((y.fit.spread k s i).0 p.0, p.1)),
@@ -186,7 +197,11 @@ module _ {L : Limits} {H : History} {c : Bench} (g : Ground L (setup_of c)) (y :
 
   -- where no copy is owed, what one sound board has heard every other has
   all-alike : NothingOwed L S H → AllAlike L S H
-  all-alike n j k p q s i v d = ⊎_elim (λ z. absurd (n k s i v (lacks-owed (lacks z)))) (y.tells.delivered k s i v).1 (heard-or-not y.fit.sane k s i v signed)
+  all-alike n j k p q s i v d =
+      ⊎_elim
+      (λ z. absurd (n k s i v (lacks-owed (lacks z))))
+      (y.tells.delivered k s i v).1
+      (heard-or-not y.fit.sane k s i v signed)
     where
       signed : signed_by L c s i ≡ entry_of v
       signed = was-signed y.fit.sane j s i v ((y.tells.delivered j s i v).0 d)
@@ -224,17 +239,21 @@ module _ {L : Limits} {H : History} {c : Bench} (g : Ground L (setup_of c)) (y :
   agrees : Agrees L S H c
   agrees =
       record {
-        agreement = λ j k r r' v w p q. won-one L c.n (signed_by L c) g.some-board r v r' w (signed-won j r v p) (signed-won k r' w q);
+        agreement =
+            λ j k r r' v w p q.
+            won-one L c.n (signed_by L c) g.some-board r v r' w (signed-won j r v p) (signed-won k r' w q);
         one_round =
             λ k r r' v w p q.
-            ap
-            (λ (d : Decision). d.round.0)
-            (decided-one (decision_of r v) (decision_of r' w) (sym ((y.tells.decided k r v).0 p).1 ∙ ((y.tells.decided k r' w).0 q).1));
+            let d = ((y.tells.decided k r v).0 p).1 in
+            let d' = ((y.tells.decided k r' w).0 q).1 in
+            ap (λ (d : Decision). d.round.0) (decided-one (decision_of r v) (decision_of r' w) (sym d ∙ d'));
         validity =
             λ k r v d.
-            opened-origin g y.fit y.tells y.rooted k r v (won-opened L c.n (heard_by L c k) g.some-board r v (heard-won k r v d)).said;
+            let o = won-opened L c.n (heard_by L c k) g.some-board r v (heard-won k r v d) in
+            opened-origin g y.fit y.tells y.rooted k r v o.said;
         one_value = λ k i v w p q. entry-one v w (sym ((y.tells.signed k i v).0 p) ∙ (y.tells.signed k i w).0 q);
-        integrity = λ k s i v d. (y.tells.signed s i v).1 (was-signed y.fit.sane k s i v ((y.tells.delivered k s i v).0 d));
+        integrity =
+            λ k s i v d. (y.tells.signed s i v).1 (was-signed y.fit.sane k s i v ((y.tells.delivered k s i v).0 d));
         owed = (all-alike, nothing-owed);
         shows =
             record {

@@ -1,4 +1,5 @@
--- Laws of what an accepted event does: by its kind, and each board, each signer and what is owed, read back. Assumes nothing.
+-- Laws of what an accepted event does: by its kind, and each board, each signer and what is owed, read back. Assumes
+-- nothing.
 use Prim.Native.Nat.{ℕ, ◌≤◌}
 use native.Mathlib.Omega.{arith}
 use mathlib.Core.Path.{◌≡◌, refl, ap, ◌∙◌}
@@ -101,7 +102,8 @@ module _ (L : Limits) (c : Bench) (e : Event) where
   unfolding after_turn with_board_at
   owed-turning k = ap (λ (d : Bench). d.owed) (effect-turning k) ∙ saying-owed (turn L c.n e.a b).signed
 
-  pub owed-delivering : e.kind ≡ delivering → c'.owed ≡ after_delivery L c.owed e.a e.b e.id c.sound (holders L c e.b e.id)
+  pub owed-delivering : e.kind ≡ delivering
+      → c'.owed ≡ after_delivery L c.owed e.a e.b e.id c.sound (holders L c e.b e.id)
   unfolding after_hearing with_board_at with_owed
   owed-delivering k = ap (λ (d : Bench). d.owed) (effect-delivering k)
 
@@ -134,7 +136,8 @@ module _ (L : Limits) (c : Bench) (e : Event) where
 
 -- each board and each signer of a bench that has those of its bus
 module _ {L : Limits} {c : Bench} {e : Event} (acc : Accepted L c e) where
-  pub boards-then : e.a ≤ length c.boards → (k : ℕ) → board_at L (c' L c e) k ≡ put (board_at L c) e.a (board_then L c e) k
+  pub boards-then : e.a ≤ length c.boards → (k : ℕ)
+      → board_at L (c' L c e) k ≡ put (board_at L c) e.a (board_then L c e) k
   unfolding effect_of after_turn after_hearing after_saying with_board_at with_signature with_owed board_at put board_then call_of
   boards-then h k =
       let low = within_low c.n e.a acc.within in

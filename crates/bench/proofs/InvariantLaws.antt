@@ -42,7 +42,8 @@ use Rattle.bench.proofs.AcceptedLaws.{Accepted}
 use Rattle.bench.proofs.EffectLaws.{call_of, board_then, asked_for, said_then, owed_saying, each-board, each-owed, same-n, same-sound, boards-size, signers-size, owed-turning, owed-delivering, owed-kept, signers-then}
 use Rattle.bench.proofs.SquareLaws.{has-board, says-new, lawful, boards-now, square}
 
-module _ {L : Limits} {c : Bench} (g : Ground L (setup_of c)) (f : Fit L (setup_of c) c) {e : Event} (acc : Accepted L c e) where
+module _ {L : Limits} {c : Bench} (g : Ground L (setup_of c)) (f : Fit L (setup_of c) c) {e : Event}
+    (acc : Accepted L c e) where
   abbrev b : Board
   b = board_at L c e.a
 
@@ -56,7 +57,8 @@ module _ {L : Limits} {c : Bench} (g : Ground L (setup_of c)) (f : Fit L (setup_
   heard-then : (k s i : ℕ) → heard_by L c' k s i ≡ ((replay L S (view L c) e).stands k).heard s i
   heard-then k s i = ap (λ (V : View). (V.stands k).heard s i) (square g f acc)
 
-  range : (s i k : ℕ) → is_sound c k ≡ true → (1 ≤ k) × (k ≤ bits) × (in_set (holders L c s i) k ≡ neg (eqb (heard_by L c k s i) 0))
+  range : (s i k : ℕ) → is_sound c k ≡ true
+      → (1 ≤ k) × (k ≤ bits) × (in_set (holders L c s i) k ≡ neg (eqb (heard_by L c k s i) 0))
   unfolding holders holds
   range s i k t =
       let w = is-there g k (g.members k t) in
@@ -65,7 +67,8 @@ module _ {L : Limits} {c : Bench} (g : Ground L (setup_of c)) (f : Fit L (setup_
       (l, omega (arith, g.bits-enough), in-set_of-within L.boards (λ (j : ℕ). neg (eqb (heard_by L c j s i) 0)) k l h)
 
   -- an event of which nobody hears anything, a delivery, and a turn
-  unowed : c'.owed ≡ c.owed → ((k s i : ℕ) → heard_by L c' k s i ≡ heard_by L c k s i) → Spread L c.sound c'.owed (heard_by L c')
+  unowed : c'.owed ≡ c.owed → ((k s i : ℕ) → heard_by L c' k s i ≡ heard_by L c k s i)
+      → Spread L c.sound c'.owed (heard_by L c')
   unowed p q =
       subst⁻¹
       (λ (o : Owed). Spread L c.sound o (heard_by L c'))
@@ -140,7 +143,8 @@ module _ {L : Limits} {c : Bench} (g : Ground L (setup_of c)) (f : Fit L (setup_
       go (no p) (no q) = quiet p q
 
   -- each board, and each signer, is as it was or is that of the event
-  boards-cases : (k : ℕ) → ((k ≡ e.a) × (board_at L c' k ≡ board_then L c e)) ⊎ ((k ≡ e.a → ⊥) × (board_at L c' k ≡ board_at L c k))
+  boards-cases : (k : ℕ)
+      → ((k ≡ e.a) × (board_at L c' k ≡ board_then L c e)) ⊎ ((k ≡ e.a → ⊥) × (board_at L c' k ≡ board_at L c k))
   boards-cases = put-cases (board_at L c) (board_at L c') e.a (board_then L c e) (boards-now g f acc)
 
   signers-cases : (k : ℕ) → ((k ≡ e.a) × (signer_at L c' k ≡ asked_for L c e (signer_at L c e.a) (said_then L c e)))
@@ -148,7 +152,8 @@ module _ {L : Limits} {c : Bench} (g : Ground L (setup_of c)) (f : Fit L (setup_
   signers-cases =
       put-cases (signer_at L c) (signer_at L c') e.a _ (signers-then acc (omega (arith, has-board g f acc, f.signers)))
 
-  every-board : (P : Board → Type 0) → ((k : ℕ) → P (board_at L c k)) → ((x : Call) → P (called L c.n e.a b x)) → (k : ℕ) → P (board_at L c' k)
+  every-board : (P : Board → Type 0) → ((k : ℕ) → P (board_at L c k)) → ((x : Call) → P (called L c.n e.a b x))
+      → (k : ℕ) → P (board_at L c' k)
   every-board P p q k =
       ⊎_elim (λ z. rw z.1 (each-board L c e P (p e.a) q)) (λ z. rw z.1 (p k)) (boards-cases k)
 
@@ -161,7 +166,8 @@ module _ {L : Limits} {c : Bench} (g : Ground L (setup_of c)) (f : Fit L (setup_
   rises : due L b ≤ due L (board_then L c e)
   rises = each-board L c e (λ (y : Board). due L b ≤ due L y) (omega arith) (called-due L c.n e.a b (f.proper e.a))
 
-  in-turn : e.kind ≡ turning → (board_then L c e ≡ (turn L c.n e.a b).board) × (said_then L c e ≡ (turn L c.n e.a b).signed)
+  in-turn : e.kind ≡ turning
+      → (board_then L c e ≡ (turn L c.n e.a b).board) × (said_then L c e ≡ (turn L c.n e.a b).signed)
   unfolding board_then said_then call_of
   in-turn k = let t = called-turn L c.n e.a b in (grind (arith, nat_tests), grind (arith, nat_tests))
 
@@ -169,7 +175,8 @@ module _ {L : Limits} {c : Bench} (g : Ground L (setup_of c)) (f : Fit L (setup_
   unfolding said_then
   else-none t k = let q = acc.faulty in grind (arith, nat_tests)
 
-  own-ahead : is_sound c e.a ≡ true → (asked_for L c e (signer_at L c e.a) (said_then L c e)).last.0 ≤ due L (board_then L c e) - 1
+  own-ahead : is_sound c e.a ≡ true
+      → (asked_for L c e (signer_at L c e.a) (said_then L c e)).last.0 ≤ due L (board_then L c e) - 1
   unfolding asked_for
   own-ahead t = go (ℕ_discrete e.kind turning) (said_then L c e) refl
     where
@@ -179,7 +186,8 @@ module _ {L : Limits} {c : Bench} (g : Ground L (setup_of c)) (f : Fit L (setup_
       go (yes k) (Some x) n =
           let q = in-turn k in
           let s : (turn L c.n e.a b).signed ≡ Some x = sym q.1 ∙ n in
-          let o : (x.speaker ≡ e.a) × (grants L.identifiers (signer_at L c e.a) x.id.0 ≡ true) = rw s at (acc.speaks k) in
+          let o : (x.speaker ≡ e.a) × (grants L.identifiers (signer_at L c e.a) x.id.0 ≡ true) =
+          rw s at (acc.speaks k) in
           omega (
             arith,
             ap (due L) q.0,
@@ -193,7 +201,8 @@ module _ {L : Limits} {c : Bench} (g : Ground L (setup_of c)) (f : Fit L (setup_
   apart-kept k t = let p = boards-cases k in let q = acc.sound in let r = f.apart k t in grind (arith, nat_tests)
 
   ahead-kept : (k : ℕ) → is_sound c k ≡ true → (signer_at L c' k).last.0 ≤ due L (board_at L c' k) - 1
-  ahead-kept k t = let p = boards-cases k in let q = signers-cases k in let r = f.ahead k t in let u = own-ahead in grind arith
+  ahead-kept k t =
+      let p = boards-cases k in let q = signers-cases k in let r = f.ahead k t in let u = own-ahead in grind arith
 
   pub same-setup : setup_of c' ≡ S
   same-setup = let p = same-n L c e in let q = same-sound L c e in cc
@@ -214,7 +223,8 @@ module _ {L : Limits} {c : Bench} (g : Ground L (setup_of c)) (f : Fit L (setup_
             (λ j s i sound have. after-delivery-whole L c.owed j s i sound have f.complete);
         proper = every-board (Proper L) f.proper (called-proper L b (f.proper e.a) c.n e.a g.some-round);
         grounded = every-board (Grounded L c.n) f.grounded (called-grounded L c.n e.a b (f.grounded e.a));
-        formed = λ k. ⊎_elim (λ z. rw z.1 (asked-formed (said_then L c e))) (λ z. rw z.1 (f.formed k)) (signers-cases k);
+        formed =
+            λ k. ⊎_elim (λ z. rw z.1 (asked-formed (said_then L c e))) (λ z. rw z.1 (f.formed k)) (signers-cases k);
         apart = apart-kept;
         ahead = ahead-kept;
         sane = subst⁻¹ (Sane L S) (square g f acc) (replay-sane (lawful g f acc) f.sane);

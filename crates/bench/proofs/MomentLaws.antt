@@ -50,7 +50,8 @@ module _ (H : History) (x : Entry) (P : History → Event → Type 0) where
               before = m.before;
               event = m.event;
               later = m.later then x;
-              whole = ap (λ (w : History). w then x) m.whole ∙ append_assoc m.before (accepted m.event ∷ m.later) (x ∷ []);
+              whole =
+                  ap (λ (w : History). w then x) m.whole ∙ append_assoc m.before (accepted m.event ∷ m.later) (x ∷ []);
             };
         so = o.so;
       }
@@ -76,11 +77,17 @@ module _ (H : History) (x : Entry) (P : History → Event → Type 0) where
       go : (o : Once (H then x) P) → Order H o.moment.before x (accepted o.moment.event) [] o.moment.later
           → Once H P ⊎ ((x.answer ≡ 0) × P H x.event)
       go o (inl p) =
-          inl (record { moment = record { before = o.moment.before; event = o.moment.event; later = p.0; whole = p.1 }; so = o.so })
+          inl (record {
+            moment = record { before = o.moment.before; event = o.moment.event; later = p.0; whole = p.1 };
+            so = o.so;
+          })
       go o (inr (inl p)) =
           inr (
             ap (λ (w : Entry). w.answer) p.0,
-            subst (λ (B : History). P B x.event) (sym p.1) (subst (P o.moment.before) (ap (λ (w : Entry). w.event) (sym p.0)) o.so),
+            subst
+                (λ (B : History). P B x.event)
+                (sym p.1)
+                (subst (P o.moment.before) (ap (λ (w : Entry). w.event) (sym p.0)) o.so),
           )
       go o (inr (inr p)) = absurd (no-entry p.0 _ _ p.1)
 
@@ -89,12 +96,14 @@ once-new H e P p = (once-more H (accepted e) P).1 (inr (refl, p))
 
 -- where a board stands after one entry more
 module _ (L : Limits) (n k : ℕ) where
-  from_last : (t : Standing) (H : History) (x : Entry) → after_entries L n k t (H then x) ≡ after_entry L n k (after_entries L n k t H) x
+  from_last : (t : Standing) (H : History) (x : Entry)
+      → after_entries L n k t (H then x) ≡ after_entry L n k (after_entries L n k t H) x
   unfolding after_entries
   from_last t [] x = refl
   from_last t (y ∷ H) x = from_last (after_entry L n k t y) H x
 
-  pub standing-last : (H : History) (x : Entry) → standing_after L n k (H then x) ≡ after_entry L n k (standing_after L n k H) x
+  pub standing-last : (H : History) (x : Entry)
+      → standing_after L n k (H then x) ≡ after_entry L n k (standing_after L n k H) x
   unfolding standing_after
   standing-last H x = from_last outset H x
 

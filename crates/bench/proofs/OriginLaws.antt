@@ -1,5 +1,5 @@
--- Where the values come from: every estimate of a sound board, and every opening that one signs, was proposed by a sound
--- board or opened by a faulty coordinator. Assumes nothing.
+-- Where the values come from: every estimate of a sound board, and every opening that one signs, was proposed by a
+-- sound board or opened by a faulty coordinator. Assumes nothing.
 use Prim.Native.Nat.{ℕ}
 use native.Mathlib.Omega.{arith}
 use mathlib.Core.Path.{◌≡◌, refl, sym, ap, ◌∙◌}
@@ -46,28 +46,34 @@ use Rattle.bench.proofs.SquareLaws.{lawful}
 use Rattle.bench.proofs.TellsLaws.{Tells}
 
 pub record Rooted (L : Limits) (S : Setup) (H : History) (V : View) : Type 0 where
-  pub estimates : (k : ℕ) → Sound L S k → ((V.stands k).position.estimate ≡ 0 → ⊥) → Origin L S H (V.stands k).position.estimate
-  pub openings : (k r v : ℕ) → Sound L S k → is_round L r ≡ true → V.signed k (identifier_of L Opening r) ≡ entry_of v → Origin L S H v
+  pub estimates : (k : ℕ) → Sound L S k → ((V.stands k).position.estimate ≡ 0 → ⊥)
+      → Origin L S H (V.stands k).position.estimate
+  pub openings : (k r v : ℕ) → Sound L S k → is_round L r ≡ true → V.signed k (identifier_of L Opening r) ≡ entry_of v
+      → Origin L S H v
 
 -- an origin stays one
 origin-kept : (L : Limits) (S : Setup) (H : History) (x : Entry) (v : ℕ) → Origin L S H v → Origin L S (H then x) v
 origin-kept L S H x v (was-proposed p s o) = was-proposed p s (once-kept H x _ o)
-origin-kept L S H x v (was-opened p r f i c s) = was-opened p r f i c (signed-kept L S H x p (identifier_of L Opening r) v s)
+origin-kept L S H x v (was-opened p r f i c s) =
+    was-opened p r f i c (signed-kept L S H x p (identifier_of L Opening r) v s)
 
-pub rooted-refused : (L : Limits) (S : Setup) (H : History) (V : View) (x : Entry) → Rooted L S H V → Rooted L S (H then x) V
+pub rooted-refused : (L : Limits) (S : Setup) (H : History) (V : View) (x : Entry) → Rooted L S H V
+    → Rooted L S (H then x) V
 rooted-refused L S H V x o =
     record {
       estimates = λ k s n. origin-kept L S H x _ (o.estimates k s n);
       openings = λ k r v s i e. origin-kept L S H x v (o.openings k r v s i e);
     }
 
-module _ {L : Limits} {H : History} {c : Bench} (g : Ground L (setup_of c)) (f : Fit L (setup_of c) c) (y : Tells L (setup_of c) H (view L c))
+module _ {L : Limits} {H : History} {c : Bench} (g : Ground L (setup_of c)) (f : Fit L (setup_of c) c) (y : Tells L
+    (setup_of c) H (view L c))
     (o : Rooted L (setup_of c) H (view L c)) where
   abbrev S : Setup
   S = setup_of c
 
   -- an opening that a board has heard from the round's coordinator has an origin
-  pub opened-origin : (k r v : ℕ) → heard_by L c k (coordinator c.n r) (identifier_of L Opening r) ≡ entry_of v → Origin L S H v
+  pub opened-origin : (k r v : ℕ) → heard_by L c k (coordinator c.n r) (identifier_of L Opening r) ≡ entry_of v
+      → Origin L S H v
   opened-origin k r v e = go (decided (is_round L r)) (decided (is_sound c p))
     where
       p : ℕ
@@ -76,7 +82,8 @@ module _ {L : Limits} {H : History} {c : Bench} (g : Ground L (setup_of c)) (f :
       signed : signed_by L c p (identifier_of L Opening r) ≡ entry_of v
       signed = was-signed f.sane k p (identifier_of L Opening r) v e
 
-      go : (is_round L r ≡ true) ⊎ (is_round L r ≡ false) → (is_sound c p ≡ true) ⊎ (is_sound c p ≡ false) → Origin L S H v
+      go : (is_round L r ≡ true) ⊎ (is_round L r ≡ false) → (is_sound c p ≡ true) ⊎ (is_sound c p ≡ false)
+          → Origin L S H v
       go (inl i) (inl s) = o.openings p r v s i signed
       go (inl i) (inr s) =
           let q = coordinator-in c.n r g.some-board in
@@ -121,20 +128,17 @@ module _ {L : Limits} {H : History} {c : Bench} (g : Ground L (setup_of c)) (f :
         (⊎_elim
         (λ q. was-proposed e.a s (once-new H e _ (record { kind = q.0; board = refl; value = q.1 })))
         (λ q.
-        origin-kept
-        L
-        S
-        H
-        (accepted e)
-        estimate
-        (opened-origin e.a b.position.round.0 estimate (opening-reads L c.n (heard_by L c e.a) b.position.round.0 estimate q).said)))
+        let r = b.position.round.0 in
+        let heard = (opening-reads L c.n (heard_by L c e.a) r estimate q).said in
+        origin-kept L S H (accepted e) estimate (opened-origin e.a r estimate heard)))
         estimate-comes
 
     -- an opening that a sound board signs in its turn has its estimate
     signed-origin : (k r v : ℕ) → Sound L S k → is_round L r ≡ true
         → SignsNow L S (view L c).stands e k (identifier_of L Opening r) v → Origin L S H' v
     signed-origin k r v s i (inr p) = absurd (true≢false (sym s ∙ p.0.1))
-    signed-origin k r v s i (inl p) = go (turn-signs L c.n k (board_at L c k) _ (turn-says L c.n k (board_at L c k) votes ∙ p.1.says))
+    signed-origin k r v s i (inl p) =
+        go (turn-signs L c.n k (board_at L c k) _ (turn-says L c.n k (board_at L c k) votes ∙ p.1.says))
       where
         votes : (board_at L c k).status ≡ Voting
         votes = rw p.1.board at (acc.voting p.1.kind)

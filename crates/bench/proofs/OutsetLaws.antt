@@ -62,8 +62,8 @@ module _ (L : Limits) (S : Setup) where
         signed =
             fun_ext
             (λ (k : ℕ).
-            fun_ext
-            (λ (i : ℕ). ap (λ (s : Signer). entry_at s.log i) (signer-fresh L S.n S.sound k) ∙ fresh-entry L.identifiers i))
+            let s = signer-fresh L S.n S.sound k in
+            fun_ext (λ (i : ℕ). ap (λ (s : Signer). entry_at s.log i) s ∙ fresh-entry L.identifiers i))
             j;
       }
 
@@ -112,7 +112,10 @@ module _ (L : Limits) (S : Setup) where
         grounded = λ k. rw (board-fresh L S.n S.sound k) (fresh-grounded L S.n);
         formed = λ k. rw (signer-fresh L S.n S.sound k) (fresh-wellformed L.identifiers);
         apart = λ k f. board-fresh L S.n S.sound k;
-        ahead = λ k t. let z = ap (λ (x : Signer). x.last.0) (signer-fresh L S.n S.sound k) ∙ fresh-last L.identifiers in omega (arith, z);
+        ahead =
+            λ k t.
+            let z = ap (λ (x : Signer). x.last.0) (signer-fresh L S.n S.sound k) ∙ fresh-last L.identifiers in
+            omega (arith, z);
         spread =
             λ k s i. (
               λ h. absurd (true≢false (sym h ∙ ap (λ (m : ℕ). in_set m k) (owed-nothing L s i) ∙ in-none k)),
@@ -123,4 +126,10 @@ module _ (L : Limits) (S : Setup) where
 
   pub sure-fresh : Sure L S [] empty
   unfolding bench_of
-  sure-fresh = record { bus = refl; fit = fresh-fit; tells = rw sees-nothing tells-nothing; rooted = rw sees-nothing rooted-nothing }
+  sure-fresh =
+      record {
+        bus = refl;
+        fit = fresh-fit;
+        tells = rw sees-nothing tells-nothing;
+        rooted = rw sees-nothing rooted-nothing;
+      }

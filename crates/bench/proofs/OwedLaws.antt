@@ -1,5 +1,5 @@
--- A copy is owed, by a history, to each sound board that lacks what another has: whatever became of it in between. Assumes
--- nothing.
+-- A copy is owed, by a history, to each sound board that lacks what another has, whatever became of it in between.
+-- Assumes nothing.
 use Prim.Native.Nat.{ℕ}
 use native.Mathlib.Omega.{arith}
 use mathlib.Core.Path.{◌≡◌, refl, sym, ap, subst, ◌∙◌}
@@ -22,13 +22,17 @@ once-early H B K P e o =
             before = o.moment.before;
             event = o.moment.event;
             later = o.moment.later ++ K;
-            whole = e ∙ ap (λ (w : History). w ++ K) o.moment.whole ∙ append_assoc o.moment.before (accepted o.moment.event ∷ o.moment.later) K;
+            whole =
+                e
+                ∙ ap (λ (w : History). w ++ K) o.moment.whole
+                ∙ append_assoc o.moment.before (accepted o.moment.event ∷ o.moment.later) K;
           };
       so = o.so;
     }
 
 -- and so was what was so in the rest, where it does not depend on what came before
-pub once-late : (H B K : History) (x : Entry) (Q : Event → Type 0) → H ≡ B ++ (x ∷ K) → Once K (λ (B : History) (e : Event). Q e) → Once H (λ (B : History) (e : Event). Q e)
+pub once-late : (H B K : History) (x : Entry) (Q : Event → Type 0) → H ≡ B ++ (x ∷ K)
+    → Once K (λ (B : History) (e : Event). Q e) → Once H (λ (B : History) (e : Event). Q e)
 once-late H B K x Q e o =
     record {
       moment =
@@ -36,7 +40,10 @@ once-late H B K x Q e o =
             before = B ++ (x ∷ o.moment.before);
             event = o.moment.event;
             later = o.moment.later;
-            whole = e ∙ ap (λ (w : History). B ++ (x ∷ w)) o.moment.whole ∙ sym (append_assoc B (x ∷ o.moment.before) (accepted o.moment.event ∷ o.moment.later));
+            whole =
+                e
+                ∙ ap (λ (w : History). B ++ (x ∷ w)) o.moment.whole
+                ∙ sym (append_assoc B (x ∷ o.moment.before) (accepted o.moment.event ∷ o.moment.later));
           };
       so = o.so;
     }
@@ -50,7 +57,8 @@ pub record Lacks (L : Limits) (S : Setup) (H : History) (k s i v : ℕ) : Type 0
   pub holder-has : Delivered L S H holder s i v
 
 -- what was delivered in the first part of a history was delivered in it
-has-early : (L : Limits) (S : Setup) (H B K : History) (j s i v : ℕ) → H ≡ B ++ K → Delivered L S B j s i v → Delivered L S H j s i v
+has-early : (L : Limits) (S : Setup) (H B K : History) (j s i v : ℕ) → H ≡ B ++ K → Delivered L S B j s i v
+    → Delivered L S H j s i v
 has-early L S H B K j s i v e (t, inr p) = (t, inr (once-early H B K _ e p))
 has-early L S H B K j s i v e (t, inl (m, inl q)) = (t, inl (m, inl (q.0, once-early H B K _ e q.1)))
 has-early L S H B K j s i v e (t, inl (m, inr q)) = (t, inl (m, inr (q.0, once-early H B K _ e q.1)))
@@ -62,7 +70,12 @@ module _ {L : Limits} {S : Setup} {H : History} {k s i v : ℕ} where
       record {
         is-sound = o.is-sound;
         other = o.other;
-        has-not = λ d. ⊎_elim (λ p. o.other (sym p.0)) (λ r. arrived d.0 r (order at.before r.moment.before (accepted at.event) (accepted r.moment.event) at.later r.moment.later (sym at.whole ∙ r.moment.whole))) d.1;
+        has-not =
+            λ d.
+            ⊎_elim
+            (λ p. o.other (sym p.0))
+            (λ r. arrived d.0 r (order _ _ _ _ _ _ (sym at.whole ∙ r.moment.whole)))
+            d.1;
         holder = (holder o.spreads).0;
         holder-has = (holder o.spreads).1;
       }
@@ -82,13 +95,16 @@ module _ {L : Limits} {S : Setup} {H : History} {k s i v : ℕ} where
       arrived : Sound L S k → (r : Reached L S H k s i v)
           → Order at.before r.moment.before (accepted at.event) (accepted r.moment.event) at.later r.moment.later → ⊥
       arrived t r (inl p) =
-          o.not-before (t, inr (record { moment = record { before = r.moment.before; event = r.moment.event; later = p.0; whole = p.1 }; so = r.so }))
+          let m : Moment at.before = record { before = r.moment.before; event = r.moment.event; later = p.0; whole = p.1 } in
+          o.not-before (t, inr (record { moment = m; so = r.so }))
       arrived t r (inr (inl p)) = spreads-not o.spreads (subst (λ (x : Entry). Delivers x.event k s i v) (sym p.0) r.so)
       arrived t r (inr (inr p)) =
-          o.not-since (record { moment = record { before = p.0; event = r.moment.event; later = r.moment.later; whole = p.1 }; so = r.so })
+          let m : Moment at.later = record { before = p.0; event = r.moment.event; later = r.moment.later; whole = p.1 } in
+          o.not-since (record { moment = m; so = r.so })
 
   -- and who lacks a statement is owed a copy, as of any moment when it spread
-  spread-at : Lacks L S H k s i v → (m : Moment H) → Spreads L S (standing_after L S.n s m.before) m.event k s i v → Owed L S H k s i v
+  spread-at : Lacks L S H k s i v → (m : Moment H) → Spreads L S (standing_after L S.n s m.before) m.event k s i v
+      → Owed L S H k s i v
   spread-at l m p =
       record {
         is-sound = l.is-sound;
@@ -96,7 +112,10 @@ module _ {L : Limits} {S : Setup} {H : History} {k s i v : ℕ} where
         moment = m;
         spreads = p;
         not-before = λ d. l.has-not (has-early L S H m.before _ k s i v m.whole d);
-        not-since = λ r. l.has-not (l.is-sound, inr (once-late H m.before m.later (accepted m.event) (λ (e : Event). Delivers e k s i v) m.whole r));
+        not-since =
+            λ r.
+            let q = once-late H m.before m.later (accepted m.event) (λ (e : Event). Delivers e k s i v) m.whole r in
+            l.has-not (l.is-sound, inr q);
       }
 
   pub lacks-owed : Lacks L S H k s i v → Owed L S H k s i v
@@ -111,7 +130,8 @@ module _ {L : Limits} {S : Setup} {H : History} {k s i v : ℕ} where
           spread-at l q.moment (by-signing (rw e l.holder-has.0) q.so)
       go (inl (e, inr p)) = absurd (true≢false (sym l.holder-has.0 ∙ p.0.1))
       go (inr r) =
-          spread-at l r.moment (by-echo j l.holder-has.0 (λ (m : j ≡ k). l.has-not (subst (λ (x : ℕ). Delivered L S H x s i v) m l.holder-has)) r.so)
+          let other = λ (m : j ≡ k). l.has-not (subst (λ (x : ℕ). Delivered L S H x s i v) m l.holder-has) in
+          spread-at l r.moment (by-echo j l.holder-has.0 other r.so)
 
 -- where all sound boards have delivered the same, no copy is owed
 pub nothing-owed : {L : Limits} {S : Setup} {H : History} → AllAlike L S H → NothingOwed L S H

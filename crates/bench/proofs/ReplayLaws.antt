@@ -56,7 +56,8 @@ module _ (L : Limits) (S : Setup) (V : View) (e : Event) where
     pub is-sound : (e.kind ≡ signing → ⊥) → Sound L S e.a
     pub faulty : e.kind ≡ signing → Faulty L S e.a
     pub asked : e.kind ≡ signing → V.signed e.a e.id ≡ 0
-    pub says : e.kind ≡ turning → IfSome (saying L S.n e.a t) (λ (x : Statement). (x.speaker ≡ e.a) × (V.signed e.a x.id.0 ≡ 0))
+    pub says : e.kind ≡ turning
+        → IfSome (saying L S.n e.a t) (λ (x : Statement). (x.speaker ≡ e.a) × (V.signed e.a x.id.0 ≡ 0))
     pub brings : e.kind ≡ delivering → V.signed e.b e.id ≡ entry_of e.value
     pub lacking : e.kind ≡ delivering → t.heard e.b e.id ≡ 0
     pub idle : e.kind ≡ proposing → V.status e.a ≡ Idle
@@ -81,7 +82,8 @@ module _ {L : Limits} {S : Setup} {V : View} {e : Event} (w : Lawful L S V e) (f
   abbrev V' : View
   V' = replay L S V e
 
-  pub replay-signs : (k i v : ℕ) → (V'.signed k i ≡ entry_of v) ↔ ((V.signed k i ≡ entry_of v) ⊎ SignsNow L S V.stands e k i v)
+  pub replay-signs : (k i v : ℕ)
+      → (V'.signed k i ≡ entry_of v) ↔ ((V.signed k i ≡ entry_of v) ⊎ SignsNow L S V.stands e k i v)
   unfolding signed_then hearing hearing_said ◌and◌
   replay-signs k i v = (grind (arith, nat_tests), grind (arith, nat_tests))
 

@@ -25,11 +25,7 @@ use Rattle.bench.proofs.FitLaws.{Ground}
 
 -- the members of a set of 1 to n are among them, and the set of board 1 alone is such a set
 pub in_within : (n : ℕ) (p : ℕ → Bool) (k : ℕ) → in_set (set_of n p) k ≡ true → is_within n k ≡ true
-in_within n p k t =
-    ⊎_elim
-    (λ w. w)
-    (λ f. absurd (true≢false (sym t ∙ in-set_of-outside n p k (within-out n k f))))
-    (decided (is_within n k))
+in_within n p k t = let o = in-set_of-outside n p k in let w = within-out n k in grind arith
 
 abbrev pub all : ℕ → Bool
 all k = true
@@ -46,21 +42,26 @@ fresh-bench L n marks = refl
 
 -- marks that read alike make one bench
 module _ (ms rs : List ℕ) (e : (k : ℕ) → nth ms k 0 ≡ nth rs k 0) where
+  read-alike : is_mark_at ms ≡ is_mark_at rs
+  unfolding is_mark_at
+  read-alike = fun_ext (λ k. ap is_mark (e k))
+
+  sound-alike : is_marked_sound ms ≡ is_marked_sound rs
+  unfolding is_marked_sound
+  sound-alike = fun_ext (λ k. ap (λ (m : ℕ). eqb m 0) (e k))
+
   setup-alike : (a : Result (Unit {0}) SetupFault) (n : ℕ) → setup_by a n ms ≡ setup_by a n rs
-  unfolding setup_by is_marked_sound
-  setup-alike (Ok _) n = ap (λ (p : ℕ → Bool). record { n = n; sound = set_of n p }) (fun_ext (λ k. ap (λ (m : ℕ). eqb m 0) (e k)))
+  unfolding setup_by
+  setup-alike (Ok _) n = rw sound-alike
   setup-alike (Err _) n = refl
 
   answer-alike : (L : Limits) (n : ℕ) → fresh_answer L n ms ≡ fresh_answer L n rs
-  unfolding fresh_answer is_mark_at
-  answer-alike L n = ap (λ (p : ℕ → Bool). if is_board L n then (if every_in n p then Ok tt else Err NoMark) else Err NoBus) (fun_ext (λ k. ap is_mark (e k)))
+  unfolding fresh_answer
+  answer-alike L n = rw read-alike
 
   pub fresh-alike : (L : Limits) (n : ℕ) → fresh_bench L n ms ≡ fresh_bench L n rs
   unfolding fresh_bench
-  fresh-alike L n =
-      ap
-      (λ (s : Setup). bench_of L s.n s.sound)
-      (ap (λ (a : Result (Unit {0}) SetupFault). setup_by a n ms) (answer-alike L n) ∙ setup-alike (fresh_answer L n rs) n)
+  fresh-alike L n = rw (answer-alike L n, setup-alike (fresh_answer L n rs) n)
 
 -- none of no marks is wrong; one more is a mark if it is read as one; and where it is not, not all of them are
 pub marks-none : (marks : List ℕ) → every_in 0 (is_mark_at marks) ≡ true
@@ -75,7 +76,8 @@ marks-next i marks h g = reads-every (i + 1) _ (λ k l u. go k l u (dec_le k i))
     go k l u (yes b) = every-reads i _ h k l b
     go k l u (no b) = let e : k ≡ i + 1 = omega arith in ap (λ (j : ℕ). is_mark (nth marks j 0)) e ∙ g
 
-pub marks-fail : (n i : ℕ) (marks : List ℕ) → i < n → is_mark (nth marks (i + 1) 0) ≡ false → every_in n (is_mark_at marks) ≡ false
+pub marks-fail : (n i : ℕ) (marks : List ℕ) → i < n → is_mark (nth marks (i + 1) 0) ≡ false
+    → every_in n (is_mark_at marks) ≡ false
 unfolding is_mark_at
 marks-fail n i marks l f = fails _ (λ h. true≢false (sym (every-reads n _ h (i + 1) (omega arith) (omega arith)) ∙ f))
 
@@ -98,11 +100,15 @@ board-ground S t m =
       members = m;
     }
 
-ground-by : (n : ℕ) (marks : List ℕ) (a : Result (Unit {0}) SetupFault) → (a ≡ Ok tt → is_board limits n ≡ true) → Ground limits (setup_by a n marks)
+ground-by : (n : ℕ) (marks : List ℕ) (a : Result (Unit {0}) SetupFault) → (a ≡ Ok tt → is_board limits n ≡ true)
+    → Ground limits (setup_by a n marks)
 unfolding setup_by
 ground-by n marks (Ok _) h = board-ground _ (h refl) (in_within n (is_marked_sound marks))
 ground-by n marks (Err _) h =
-    board-ground alone (within_in limits.boards 1 (omega arith) (omega arith)) (λ k t. in_within 1 all k (rw alone-set at t))
+    board-ground
+    alone
+    (within_in limits.boards 1 (omega arith) (omega arith))
+    (λ k t. in_within 1 all k (rw alone-set at t))
 
 pub limits-ground : (n : ℕ) (marks : List ℕ) → Ground limits (setup limits n marks)
 unfolding fresh_answer

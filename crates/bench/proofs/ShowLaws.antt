@@ -1,5 +1,5 @@
--- What a bench shows of a board: the letter D, with a round and a value, just where a sound board has decided so. Assumes
--- nothing.
+-- What a bench shows of a board: the letter D, with a round and a value, just where a sound board has decided so.
+-- Assumes nothing.
 use Prim.Native.Nat.{ℕ}
 use native.Mathlib.Omega.{arith}
 use mathlib.Core.Path.{◌≡◌}
@@ -15,7 +15,8 @@ use Rattle.bench.specs.Benches.{is_sound, board_at}
 use Rattle.bench.specs.Shows.{decided_as, standing, shown}
 use Rattle.bench.specs.declared.bench.Bench.{Bench}
 
-standing-decided : (p : Position) (s : Status) (r v : ℕ) → (standing p s ≡ decided_as r v) ↔ (s ≡ Decided (decision_of r v))
+standing-decided : (p : Position) (s : Status) (r v : ℕ)
+    → (standing p s ≡ decided_as r v) ↔ (s ≡ Decided (decision_of r v))
 unfolding standing
 standing-decided p s r v = (grind arith, grind arith)
 

@@ -1,5 +1,5 @@
--- Copies are owed to the sound boards that lack a statement which a sound board has; and they are so once a board hears a
--- statement that is new to it. No bench is looked at. Assumes nothing.
+-- Copies are owed to the sound boards that lack a statement which a sound board has; and they are so once a board hears
+-- a statement that is new to it. No bench is looked at. Assumes nothing.
 use Prim.Native.Nat.{ℕ, ◌≤◌}
 use native.Mathlib.Omega.{arith}
 use native.Mathlib.Decide.{ℕ_discrete}
@@ -33,8 +33,8 @@ pub record Lacking (sound : ℕ) (has : ℕ → ℕ) (k s : ℕ) : Type 0 where
 abbrev pub Spread : Limits → ℕ → Owed → (ℕ → Store) → Type 0
 Spread L sound o h = (k s i : ℕ) → (in_set (receivers L o s i) k ≡ true) ↔ Lacking sound (λ (j : ℕ). h j s i) k s
 
--- Sound board a hears what s said under i, which is new to it, and nothing else is heard: h' are the entries then, and `have`
--- are the boards that had heard it.
+-- Sound board a hears what s said under i, which is new to it, and nothing else is heard: h' are the entries then, and
+-- `have` are the boards that had heard it.
 pub record Heard (sound a s i have : ℕ) (h h' : ℕ → Store) : Type 0 where
   pub a-sound : in_set sound a ≡ true
   pub range : (k : ℕ) → in_set sound k ≡ true → (1 ≤ k) × (k ≤ bits) × (in_set have k ≡ neg (eqb (h k s i) 0))
@@ -77,14 +77,18 @@ module _ {L : Limits} {o : Owed} {sound a s i have : ℕ} {h h' : ℕ → Store}
       none = refl
 
       lacks : Lacks sound have s k → Lacked k
-      lacks l = let r = n.range k l.is-sound in let z = l.has-not in (l.is-sound, l.other, grind (arith, nat_tests, r.2, z))
+      lacks l =
+          let r = n.range k l.is-sound in
+          let z = l.has-not in
+          (l.is-sound, l.other, grind (arith, nat_tests, r.2, z))
 
   -- of another statement all is as it was
   others : {R : Type 0} (k s' i' : ℕ) → (s' ≡ s → i' ≡ i → ⊥) → R ↔ (in_set (receivers L o s' i') k ≡ true)
       → R ↔ Lacking sound (λ j. h' j s' i') k s'
   others k s' i' f r =
       let same : (λ (j : ℕ). h' j s' i') ≡ (λ (j : ℕ). h j s' i') =
-      fun_ext (λ (j : ℕ). ⊎_elim (λ e. e) (λ (e : (j ≡ a) × (s' ≡ s) × (i' ≡ i)). absurd (f e.1 e.2)) (n.only j s' i')) in
+      fun_ext
+      (λ (j : ℕ). ⊎_elim (λ e. e) (λ (e : (j ≡ a) × (s' ≡ s) × (i' ≡ i)). absurd (f e.1 e.2)) (n.only j s' i')) in
       rw same (λ t. (old k s' i').0 (r.0 t), λ l. r.1 ((old k s' i').1 l))
 
   every : {R : ℕ → ℕ → ℕ → Type 0} → ((k : ℕ) → R k s i ↔ ((k ≡ a → ⊥) × Lacked k))
@@ -93,7 +97,8 @@ module _ {L : Limits} {o : Owed} {sound a s i have : ℕ} {h h' : ℕ → Store}
   every {R = R} here there k s' i' = go (ℕ_discrete s' s) (ℕ_discrete i' i)
     where
       go : Dec (s' ≡ s) → Dec (i' ≡ i) → R k s' i' ↔ Lacking sound (λ j. h' j s' i') k s'
-      go (yes p) (yes q) = rw (p, q) (λ t. (lacking-lacked k).1 ((here k).0 t), λ l. (here k).1 ((lacking-lacked k).0 l))
+      go (yes p) (yes q) =
+          rw (p, q) (λ t. (lacking-lacked k).1 ((here k).0 t), λ l. (here k).1 ((lacking-lacked k).0 l))
       go (yes p) (no q) = others k s' i' (λ _ z. q z) (there k s' i' (λ _ z. q z))
       go (no p) q = others k s' i' (λ z _. p z) (there k s' i' (λ z _. p z))
 

@@ -41,7 +41,8 @@ hears-hearing : (L : Limits) (d : Delivered) (x : Statement) → Whole L d → N
 unfolding hearing
 hears-hearing L d x w n = fun_ext (λ s. fun_ext (hears-new L d x w n s))
 
-said-hearing : (L : Limits) (d : Delivered) (o : Option Statement) → Whole L d → IfSome o (λ (x : Statement). New L d x.speaker x.id.0)
+said-hearing : (L : Limits) (d : Delivered) (o : Option Statement) → Whole L d
+    → IfSome o (λ (x : Statement). New L d x.speaker x.id.0)
     → heard L (hears_own L d o) ≡ hearing_said (heard L d) o
 unfolding hearing_said
 said-hearing L d None w n = ap (heard L) (own-none L d)
@@ -82,7 +83,8 @@ module _ {L : Limits} {c : Bench} {e : Event} (acc : Accepted L c e) where
       let says = turn-says L c.n e.a b in
       grind (arith, nat_tests, granted-entry)
 
-module _ {L : Limits} {c : Bench} (g : Ground L (setup_of c)) (f : Fit L (setup_of c) c) {e : Event} (acc : Accepted L c e) where
+module _ {L : Limits} {c : Bench} (g : Ground L (setup_of c)) (f : Fit L (setup_of c) c) {e : Event}
+    (acc : Accepted L c e) where
   abbrev S : Setup
   S = setup_of c
 
@@ -95,7 +97,9 @@ module _ {L : Limits} {c : Bench} (g : Ground L (setup_of c)) (f : Fit L (setup_
 
   -- what is said in a turn has not been signed, and is new to who says it
   pub says-new : e.kind ≡ turning
-      → IfSome (turn L c.n e.a (board_at L c e.a)).signed (λ (x : Statement). (x.speaker ≡ e.a) × New L (board_at L c e.a).delivered e.a x.id.0)
+      → IfSome
+      (turn L c.n e.a (board_at L c e.a)).signed
+      (λ (x : Statement). (x.speaker ≡ e.a) × New L (board_at L c e.a).delivered e.a x.id.0)
   says-new k =
       IfSome_then
       (turn L c.n e.a (board_at L c e.a)).signed
@@ -141,7 +145,9 @@ module _ {L : Limits} {c : Bench} (g : Ground L (setup_of c)) (f : Fit L (setup_
 
   pub square : view L (effect_of L c e) ≡ replay L S (view L c) e
   square =
-      let p = fun_ext (put-map (standing_of L) (board_at L c) (board_at L (c' L c e)) e.a _ _ boards-now stands-now) in
-      let q = fun_ext (put-map (λ (x : Board). x.status) (board_at L c) (board_at L (c' L c e)) e.a _ _ boards-now (status-now acc)) in
+      let old = board_at L c in
+      let new = board_at L (c' L c e) in
+      let p = fun_ext (put-map (standing_of L) old new e.a _ _ boards-now stands-now) in
+      let q = fun_ext (put-map (λ (x : Board). x.status) old new e.a _ _ boards-now (status-now acc)) in
       let r = fun_ext (λ (k : ℕ). fun_ext (signed-now acc (f.formed e.a) (omega (arith, has-board, f.signers)) k)) in
       cc

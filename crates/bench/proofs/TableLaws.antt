@@ -43,7 +43,8 @@ rows-pass ((true, a) ∷ xs) ys u h = grind (arith, h)
 rows-pass ((false, a) ∷ xs) ys u h = rows-pass xs ys u h
 
 -- a board whose turn no row before row 22 refuses is voting
-state-voting : (L : Limits) (c : Bench) (e : Event) (u : Unit {0}) → first_of (state_rows L c e) ≡ Ok u → e.kind ≡ turning
+state-voting : (L : Limits) (c : Bench) (e : Event) (u : Unit {0}) → first_of (state_rows L c e) ≡ Ok u
+    → e.kind ≡ turning
     → (board_at L c e.a).status ≡ Voting
 unfolding first_of start_row end_row ◌and◌ ◌or◌ neg
 state-voting L c e u h k =
@@ -100,23 +101,25 @@ module _ (L : Limits) (c : Bench) (e : Event) where
     pub check-event : (r : Refusal) → first_of (event_rows L c k) ≡ Err r → check_of L c e ≡ Err r
     check-event r h =
         passes
-        ∙ rows-refuse (event_rows L c e) (state_rows L c e ++ turn_rows L c e) r (ap (λ (x : Event). first_of (event_rows L c x)) (sym (told-so k known).1) ∙ h)
+        ∙ rows-refuse (event_rows L c e) (state_rows L c e ++ turn_rows L c e) r (rw (told-so k known).1 at h)
 
     module _ (u : Unit {0}) (p : first_of (event_rows L c k) ≡ Ok u) where
       goes_on : check_of L c e ≡ first_of (state_rows L c e ++ turn_rows L c e)
       goes_on =
           passes
-          ∙ rows-pass (event_rows L c e) (state_rows L c e ++ turn_rows L c e) u (ap (λ (x : Event). first_of (event_rows L c x)) (sym (told-so k known).1) ∙ p)
+          ∙ rows-pass (event_rows L c e) (state_rows L c e ++ turn_rows L c e) u (rw (told-so k known).1 at p)
 
       pub check-state : (r : Refusal) → first_of (state_rows L c k) ≡ Err r → check_of L c e ≡ Err r
       check-state r h =
           goes_on
-          ∙ rows-refuse (state_rows L c e) (turn_rows L c e) r (ap (λ (x : Event). first_of (state_rows L c x)) (sym (told-so k known).1) ∙ h)
+          ∙ rows-refuse (state_rows L c e) (turn_rows L c e) r (rw (told-so k known).1 at h)
 
       pub check-turn : (v : Unit {0}) → first_of (state_rows L c k) ≡ Ok v
-          → (k ≡ e) × (e.kind ≡ turning → (board_at L c e.a).status ≡ Voting) × (check_of L c e ≡ first_of (turn_rows L c e))
+          → (k ≡ e)
+          × (e.kind ≡ turning → (board_at L c e.a).status ≡ Voting)
+          × (check_of L c e ≡ first_of (turn_rows L c e))
       check-turn v q =
-          let state : first_of (state_rows L c e) ≡ Ok v = ap (λ (x : Event). first_of (state_rows L c x)) (sym (told-so k known).1) ∙ q in (
+          let state : first_of (state_rows L c e) ≡ Ok v = rw (told-so k known).1 at q in (
             (told-so k known).1,
             state-voting L c e v state,
             goes_on ∙ rows-pass (state_rows L c e) (turn_rows L c e) v state,

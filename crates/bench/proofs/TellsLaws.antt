@@ -51,11 +51,21 @@ module _ {L : Limits} {S : Setup} {H : History} {V : View} (y : Tells L S H V) w
     unfolding after_entry put ◌and◌
     tells-accepted-stands k = standing-last L S.n k H (accepted e) ∙ grind (arith, nat_tests, y.stands k)
 
+    abbrev x : Entry
+    x = accepted e
+
     pub tells-accepted : Tells L S (H then accepted e) (replay L S V e)
     tells-accepted =
         record {
           stands = tells-accepted-stands;
-          signed = λ k i v. joined (signed-more L S H V.stands y.stands (accepted e) k i v) refl (y.signed k i v) (replay-signs w f k i v);
-          delivered = λ k s i v. joined (delivered-more L S H V.stands y.stands (accepted e) k s i v) refl (y.delivered k s i v) (replay-delivers w f k s i v);
-          decided = λ k r v. joined (decided-more L S H V.stands y.stands (accepted e) k r v) refl (y.decided k r v) (replay-decides w f k r v);
+          signed =
+              λ k i v.
+              joined (signed-more L S H V.stands y.stands x k i v) refl (y.signed k i v) (replay-signs w f k i v);
+          delivered =
+              λ k s i v.
+              let more = delivered-more L S H V.stands y.stands x k s i v in
+              joined more refl (y.delivered k s i v) (replay-delivers w f k s i v);
+          decided =
+              λ k r v.
+              joined (decided-more L S H V.stands y.stands x k r v) refl (y.decided k r v) (replay-decides w f k r v);
         }

@@ -27,7 +27,8 @@ module _ (L : Limits) (c : Bench) (k : ℕ) (v : (board_at L c k).status ≡ Vot
   took : turn L c.n k me ≡ take L k me (move_at L c k)
   took = turn-voting L c.n k me v
 
-  pub turn-made : after_turn L c k ≡ with_board_at (after_saying L c k (said_at L c k)) k (take L k me (move_at L c k)).board
+  pub turn-made : after_turn L c k
+      ≡ with_board_at (after_saying L c k (said_at L c k)) k (take L k me (move_at L c k)).board
   unfolding after_turn
   turn-made = ap (λ (t : Turn). with_board_at (after_saying L c k t.signed) k t.board) took
 
@@ -40,12 +41,14 @@ module _ (L : Limits) (c : Bench) (k : ℕ) (v : (board_at L c k).status ≡ Vot
   unfolding must_wait ◌or◌
   wait-refuses h = let t = took in grind arith
 
-  pub wait-neither : (move_at L c k ≡ Waits → ⊥) → refuses L (signer_at L c k) (said_at L c k) ≡ false → must_wait L c k ≡ false
+  pub wait-neither : (move_at L c k ≡ Waits → ⊥) → refuses L (signer_at L c k) (said_at L c k) ≡ false
+      → must_wait L c k ≡ false
   unfolding must_wait is_waiting ◌or◌
   wait-neither f h = let t = took in let d = answer-done (move_at L c k) f in grind arith
 
 -- what a board says in its turn leaves the boards as they were
-pub saying-board : (L : Limits) (c : Bench) (k : ℕ) (x : Option Statement) (j : ℕ) → board_at L (after_saying L c k x) j ≡ board_at L c j
+pub saying-board : (L : Limits) (c : Bench) (k : ℕ) (x : Option Statement) (j : ℕ)
+    → board_at L (after_saying L c k x) j ≡ board_at L c j
 unfolding board_at after_saying with_owed with_signature
 saying-board L c k None j = refl
 saying-board L c k (Some s) j = refl

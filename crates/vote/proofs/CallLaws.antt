@@ -32,8 +32,8 @@ module _ (L : Limits) (n me : ℕ) (b : Board) where
   abbrev pub move : Move
   move = rule L n me b.position (heard L b.delivered)
 
-  -- A call is taken: a proposal of a value by a board that has not started, a turn by one that votes, an announcement by one
-  -- that it convinces, and any other by each board.
+  -- A call is taken: a proposal of a value by a board that has not started, a turn by one that votes, an announcement
+  -- by one that it convinces, and any other by each board.
   abbrev pub Taken : Call → Type 0
   Taken (proposal v) = (is_started b.status ≡ false) × (v ≡ 0 → ⊥)
   Taken own_turn = b.status ≡ Voting
