@@ -23,6 +23,8 @@ use Rattle.vote.specs.Turns.{turn}
 use Rattle.vote.specs.declared.statement.Statement.{Statement}
 use Rattle.std.specs.Prelude.{Some}
 use Rattle.vote.specs.Boards.{decision_of}
+use Rattle.vote.specs.declared.board.Status.TheVariants.{Decided as decided-with}
+use Rattle.bench.specs.Shows.{decided_as, shown}
 use Rattle.vote.specs.declared.board.Decision.{Decision}
 use Rattle.vote.proofs.StatusLaws.{decided-one}
 use Rattle.vote.proofs.ProperLaws.{voting-round}
@@ -119,37 +121,20 @@ module _ (L : Limits) where
         (append_assoc H (entry_for L c e ∷ []) (history_of es (answers_to L (step_of L c e).bench es)))
         (sure-after es (H then entry_for L c e) (step_of L c e).bench (sure_step H c e y))
 
--- the claims of any bus, of which the claim speaks as its marks have it
-record Agrees (L : Limits) (S : Setup) (H : History) (c : Bench) : Type 0 where
-  agreement : (j k r r' v w : ℕ) → Decided L S H j r v → Decided L S H k r' w → v ≡ w
-  one_round : (k r r' v w : ℕ) → Decided L S H k r v → Decided L S H k r' w → r ≡ r'
-  validity : (k r v : ℕ) → Decided L S H k r v → Origin L S H v
-  one_value : (k i v w : ℕ) → Signed L S H k i v → Signed L S H k i w → v ≡ w
-  integrity : (k s i v : ℕ) → Delivered L S H k s i v → Signed L S H s i v
-  owed : NothingOwed L S H ↔ AllAlike L S H
-  shows : Shows L S H c
-  stands : (k : ℕ) → Sound L S k → let t = standing_after L S.n k H in
-      ((board_at L c k).position ≡ t.position) × ((s i : ℕ) → heard_by L c k s i ≡ t.heard s i)
-  signs : (k : ℕ) → Sound L S k → (x : Statement) → (turn L c.n k (board_at L c k)).signed ≡ Some x
-      → grants L.identifiers (signer_at L c k) x.id.0 ≡ true
-
-module _ {L : Limits} {H : History} {c : Bench} (g : Ground L (setup_of c)) (y : Sure L (setup_of c) H c) where
-  abbrev S : Setup
-  S = setup_of c
-
+module _ {L : Limits} {S : Setup} {H : History} {c : Bench} (g : Ground L S) (y : Sure L S H c) where
   -- what a board has decided has its ballots among what it heard, and so among what was signed
-  heard-won : (k r v : ℕ) → Decided L S H k r v → Won L c.n (heard_by L c k) r v
+  heard-won : (k r v : ℕ) → Decided L S H k r v → Won L S.n (heard_by L c k) r v
   heard-won k r v d = (y.fit.grounded k).won (decision_of r v) ((y.tells.decided k r v).0 d).1
 
   heard-signed : (k : ℕ) → Grows (heard_by L c k) (signed_by L c)
   heard-signed k = record { keeps = λ s i z. ⊎_elim (λ e. absurd (z e)) sym (y.fit.sane.part k s i) }
 
-  signed-won : (k r v : ℕ) → Decided L S H k r v → Won L c.n (signed_by L c) r v
-  signed-won k r v d = won-grows L c.n (heard_by L c k) (signed_by L c) (heard-signed k) r v (heard-won k r v d)
+  signed-won : (k r v : ℕ) → Decided L S H k r v → Won L S.n (signed_by L c) r v
+  signed-won k r v d = won-grows L S.n (heard_by L c k) (signed_by L c) (heard-signed k) r v (heard-won k r v d)
 
   -- who lacks a statement by the history lacks it on the bench
   lacks-lacking : (k s i v : ℕ)
-      → Lacks L S H k s i v ↔ (Lacking c.sound (λ j. heard_by L c j s i) k s × (signed_by L c s i ≡ entry_of v))
+      → Lacks L S H k s i v ↔ (Lacking S.sound (λ j. heard_by L c j s i) k s × (signed_by L c s i ≡ entry_of v))
   lacks-lacking k s i v = (
     λ l.
         let has : heard_by L c l.holder s i ≡ entry_of v = (y.tells.delivered l.holder s i v).0 l.holder-has in
@@ -188,7 +173,7 @@ module _ {L : Limits} {H : History} {c : Bench} (g : Ground L (setup_of c)) (y :
   owed-value : (k s i : ℕ) → in_set (receivers L c.owed s i) k ≡ true → (v : ℕ) × Owed L S H k s i v
   owed-value k s i t = go (heard_by L c l.holder s i) refl
     where
-      l : Lacking c.sound (λ j. heard_by L c j s i) k s
+      l : Lacking S.sound (λ j. heard_by L c j s i) k s
       l = (y.fit.spread k s i).0 t
 
       go : (x : ℕ) → heard_by L c l.holder s i ≡ x → (v : ℕ) × Owed L S H k s i v
@@ -223,7 +208,7 @@ module _ {L : Limits} {H : History} {c : Bench} (g : Ground L (setup_of c)) (y :
   identified k s (signs-ballot v q j) =
       rw (← j) (identifier-within L Ballot _ g.identifiers-enough (voting-round L (board_at L c k) (y.fit.proper k) v))
 
-  signer-grants : (k : ℕ) → is_sound c k ≡ true → (s : Statement) → (turn L c.n k (board_at L c k)).signed ≡ Some s
+  signer-grants : (k : ℕ) → Sound L S k → (s : Statement) → (turn L c.n k (board_at L c k)).signed ≡ Some s
       → grants L.identifiers (signer_at L c k) s.id.0 ≡ true
   signer-grants k t s e =
       let w = turn-signs L c.n k (board_at L c k) s e in
@@ -236,60 +221,55 @@ module _ {L : Limits} {H : History} {c : Bench} (g : Ground L (setup_of c)) (y :
       i
       (omega (arith, o, y.fit.ahead k t, within_low L.identifiers s.id.0 i))
 
-  agrees : Agrees L S H c
-  agrees =
-      record {
-        agreement =
-            λ j k r r' v w p q.
-            won-one L c.n (signed_by L c) g.some-board r v r' w (signed-won j r v p) (signed-won k r' w q);
-        one_round =
-            λ k r r' v w p q.
-            let d = ((y.tells.decided k r v).0 p).1 in
-            let d' = ((y.tells.decided k r' w).0 q).1 in
-            ap (λ (d : Decision). d.round.0) (decided-one (decision_of r v) (decision_of r' w) (sym d ∙ d'));
-        validity =
-            λ k r v d.
-            let o = won-opened L c.n (heard_by L c k) g.some-board r v (heard-won k r v d) in
-            opened-origin g y.fit y.tells y.rooted k r v o.said;
-        one_value = λ k i v w p q. entry-one v w (sym ((y.tells.signed k i v).0 p) ∙ (y.tells.signed k i w).0 q);
-        integrity =
-            λ k s i v d. (y.tells.signed s i v).1 (was-signed y.fit.sane k s i v ((y.tells.delivered k s i v).0 d));
-        owed = (all-alike, nothing-owed);
-        shows =
-            record {
-              decided =
-                  λ k r v.
-                  let w = shown-decided L c k r v (λ t. g.members k t) in
-                  (λ d. w.1 ((y.tells.decided k r v).0 d), λ e. (y.tells.decided k r v).1 (w.0 e));
-              delivered = y.tells.delivered;
-              signed = y.tells.signed;
-              owed = owed-shown;
-              no_more = owed-value;
-            };
-        stands =
-            λ k t. (
-              ap (λ (t : Standing). t.position) (sym (y.tells.stands k)),
-              λ s i. ap (λ (t : Standing). t.heard s i) (sym (y.tells.stands k)),
-            );
-        signs = signer-grants;
-      }
+  -- the letter D is shown just where a sound board has decided
+  decided-shown : (k r v : ℕ)
+      → (Sound L S k × ((board_at L c k).status ≡ decided-with (decision_of r v))) ↔ (shown L c k ≡ decided_as r v)
+  decided-shown k r v =
+      subst
+      (λ (T : Setup). Ground L T
+      → (Sound L T k × ((board_at L c k).status ≡ decided-with (decision_of r v))) ↔ (shown L c k ≡ decided_as r v))
+      y.bus
+      (λ g. let w = shown-decided L c k r v (g.members k) in (w.1, w.0))
+      g
 
 -- agreement, of any bench and history of which this is sure
 pub sure-agrees : (L : Limits) (n : ℕ) (marks : List ℕ) → Ground L (setup L n marks) → (H : History) (c : Bench)
     → Sure L (setup L n marks) H c → Agreement L n marks H c
 unfolding fresh_of fresh_bench bench_of
 sure-agrees L n marks g H c y =
-    let a : Agrees L (setup L n marks) H c =
-    subst (λ (T : Setup). Ground L T → Sure L T H c → Agrees L T H c) y.bus (λ g y. agrees g y) g y in
     record {
-      agreement = a.agreement;
-      one_round = a.one_round;
-      validity = a.validity;
-      one_value = a.one_value;
-      integrity = a.integrity;
-      owed = a.owed;
-      shows = a.shows;
+      agreement =
+          λ j k r r' v w p q.
+          won-one L (setup L n marks).n (signed_by L c) g.some-board r v r' w (signed-won g y j r v p) (signed-won g y k r' w q);
+      one_round =
+          λ k r r' v w p q.
+          let d = ((y.tells.decided k r v).0 p).1 in
+          let d' = ((y.tells.decided k r' w).0 q).1 in
+          ap (λ (d : Decision). d.round.0) (decided-one (decision_of r v) (decision_of r' w) (sym d ∙ d'));
+      validity =
+          λ k r v d.
+          let o = won-opened L (setup L n marks).n (heard_by L c k) g.some-board r v (heard-won g y k r v d) in
+          opened-origin g y.fit y.tells y.rooted k r v o.said;
+      one_value = λ k i v w p q. entry-one v w (sym ((y.tells.signed k i v).0 p) ∙ (y.tells.signed k i w).0 q);
+      integrity = λ k s i v d. (y.tells.signed s i v).1 (was-signed y.fit.sane k s i v ((y.tells.delivered k s i v).0 d));
+      owed = (all-alike g y, nothing-owed);
+      shows =
+          record {
+            decided =
+                λ k r v.
+                let t = y.tells.decided k r v in
+                let w = decided-shown g y k r v in
+                (λ d. w.0 (t.0 d), λ e. t.1 (w.1 e));
+            delivered = y.tells.delivered;
+            signed = y.tells.signed;
+            owed = owed-shown g y;
+            no_more = owed-value g y;
+          };
       fixed = (ap (λ (T : Setup). T.n) y.bus, ap (λ (T : Setup). T.sound) y.bus);
-      stands = a.stands;
-      signs = a.signs;
+      stands =
+          λ k _. (
+            ap (λ (t : Standing). t.position) (sym (y.tells.stands k)),
+            λ s i. ap (λ (t : Standing). t.heard s i) (sym (y.tells.stands k)),
+          );
+      signs = signer-grants g y;
     }

@@ -118,21 +118,13 @@ module _ (L : Limits) (c : Bench) (e : Event) where
   each-owed P p q r = grind (arith, nat_tests)
 
   -- how many boards and signers there are, and which are sound, stays
-  pub same-n : c'.n ≡ c.n
+  pub same-bus : (c'.n ≡ c.n) × (c'.sound ≡ c.sound)
   unfolding effect_of after_turn after_hearing after_saying with_board_at with_signature with_owed
-  same-n = grind (arith, nat_tests)
+  same-bus = (grind (arith, nat_tests), grind (arith, nat_tests))
 
-  pub same-sound : c'.sound ≡ c.sound
+  pub same-sizes : (length c'.boards ≡ length c.boards) × (length c'.signers ≡ length c.signers)
   unfolding effect_of after_turn after_hearing after_saying with_board_at with_signature with_owed
-  same-sound = grind (arith, nat_tests)
-
-  pub boards-size : length c'.boards ≡ length c.boards
-  unfolding effect_of after_turn after_hearing after_saying with_board_at with_signature with_owed
-  boards-size = grind (arith, nat_tests, length-set_nth)
-
-  pub signers-size : length c'.signers ≡ length c.signers
-  unfolding effect_of after_turn after_hearing after_saying with_board_at with_signature with_owed
-  signers-size = grind (arith, nat_tests, length-set_nth)
+  same-sizes = (grind (arith, nat_tests, length-set_nth), grind (arith, nat_tests, length-set_nth))
 
 -- each board and each signer of a bench that has those of its bus
 module _ {L : Limits} {c : Bench} {e : Event} (acc : Accepted L c e) where

@@ -39,7 +39,7 @@ use Rattle.bench.proofs.ReplayLaws.{Sane, replay, replay-sane}
 use Rattle.bench.proofs.SpreadLaws.{Spread, delivery-spreads, signing-spreads}
 use Rattle.bench.proofs.FitLaws.{Ground, is-there, Fit}
 use Rattle.bench.proofs.AcceptedLaws.{Accepted}
-use Rattle.bench.proofs.EffectLaws.{call_of, board_then, asked_for, said_then, owed_saying, each-board, each-owed, same-n, same-sound, boards-size, signers-size, owed-turning, owed-delivering, owed-kept, signers-then}
+use Rattle.bench.proofs.EffectLaws.{call_of, board_then, asked_for, said_then, owed_saying, each-board, each-owed, same-bus, same-sizes, owed-turning, owed-delivering, owed-kept, signers-then}
 use Rattle.bench.proofs.SquareLaws.{has-board, says-new, lawful, boards-now, square}
 
 module _ {L : Limits} {c : Bench} (g : Ground L (setup_of c)) (f : Fit L (setup_of c) c) {e : Event}
@@ -205,13 +205,13 @@ module _ {L : Limits} {c : Bench} (g : Ground L (setup_of c)) (f : Fit L (setup_
       let p = boards-cases k in let q = signers-cases k in let r = f.ahead k t in let u = own-ahead in grind arith
 
   pub same-setup : setup_of c' ≡ S
-  same-setup = let p = same-n L c e in let q = same-sound L c e in cc
+  same-setup = let p = same-bus L c e in cc
 
   pub kept : Fit L S c'
   kept =
       record {
-        boards = boards-size L c e ∙ f.boards;
-        signers = signers-size L c e ∙ f.signers;
+        boards = (same-sizes L c e).0 ∙ f.boards;
+        signers = (same-sizes L c e).1 ∙ f.signers;
         complete =
             each-owed
             L

@@ -39,22 +39,27 @@ no-entry (z ∷ B) y K e = absurd (cc)
 pub once-none : (P : History → Event → Type 0) → Once [] P → ⊥
 once-none P o = no-entry o.moment.before (accepted o.moment.event) o.moment.later o.moment.whole
 
+-- what was so in the first part of a history was so in it
+pub once-early : (H B K : History) (P : History → Event → Type 0) → H ≡ B ++ K → Once B P → Once H P
+once-early H B K P e o =
+    record {
+      moment =
+          record {
+            before = o.moment.before;
+            event = o.moment.event;
+            later = o.moment.later ++ K;
+            whole =
+                e
+                ∙ ap (λ (w : History). w ++ K) o.moment.whole
+                ∙ append_assoc o.moment.before (accepted o.moment.event ∷ o.moment.later) K;
+          };
+      so = o.so;
+    }
+
 -- something was so at some moment of a history with one entry more: it was so before, or it is so now
 module _ (H : History) (x : Entry) (P : History → Event → Type 0) where
   pub once-kept : Once H P → Once (H then x) P
-  once-kept o =
-      let m = o.moment in
-      record {
-        moment =
-            record {
-              before = m.before;
-              event = m.event;
-              later = m.later then x;
-              whole =
-                  ap (λ (w : History). w then x) m.whole ∙ append_assoc m.before (accepted m.event ∷ m.later) (x ∷ []);
-            };
-        so = o.so;
-      }
+  once-kept = once-early (H then x) H (x ∷ []) P refl
 
   pub once-more : Once (H then x) P ↔ (Once H P ⊎ ((x.answer ≡ 0) × P H x.event))
   once-more = (

@@ -12,6 +12,7 @@ use Rattle.signer.proofs.LogLaws.{entry-some}
 use Rattle.signer.proofs.FromOneLaws.{within_in, within-zero}
 use Rattle.delivery.specs.Limits.{Limits}
 use Rattle.delivery.specs.Acceptance.{accepts_opening}
+use Rattle.delivery.specs.Sets.{in_set}
 use Rattle.delivery.specs.Rounds.{is_round, coordinator, identifier_of}
 use Rattle.delivery.specs.declared.round.Phase.TheVariants.{Opening}
 use Rattle.delivery.proofs.TestLaws.{decided}
@@ -30,7 +31,7 @@ use Rattle.vote.specs.Life.{Signs, signs-opening, signs-ballot}
 use Rattle.vote.proofs.SigningLaws.{turn-signs}
 use Rattle.vote.proofs.ProperLaws.{voting-round}
 use Rattle.bench.specs.Events.{proposing}
-use Rattle.bench.specs.Benches.{is_sound, board_at, heard_by, signed_by}
+use Rattle.bench.specs.Benches.{board_at, heard_by, signed_by}
 use Rattle.bench.specs.Setups.{Setup}
 use Rattle.bench.specs.Story.{Entry, History, believing}
 use Rattle.bench.specs.Claim.{Sound, Origin, was-proposed, was-opened}
@@ -65,29 +66,25 @@ rooted-refused L S H V x o =
       openings = λ k r v s i e. origin-kept L S H x v (o.openings k r v s i e);
     }
 
-module _ {L : Limits} {H : History} {c : Bench} (g : Ground L (setup_of c)) (f : Fit L (setup_of c) c) (y : Tells L
-    (setup_of c) H (view L c))
-    (o : Rooted L (setup_of c) H (view L c)) where
-  abbrev S : Setup
-  S = setup_of c
-
-  -- an opening that a board has heard from the round's coordinator has an origin
-  pub opened-origin : (k r v : ℕ) → heard_by L c k (coordinator c.n r) (identifier_of L Opening r) ≡ entry_of v
+-- an opening that a board has heard from the round's coordinator has an origin
+module _ {L : Limits} {S : Setup} {H : History} {c : Bench} (g : Ground L S) (f : Fit L S c) (y : Tells L S H (view L c))
+    (o : Rooted L S H (view L c)) where
+  pub opened-origin : (k r v : ℕ) → heard_by L c k (coordinator S.n r) (identifier_of L Opening r) ≡ entry_of v
       → Origin L S H v
-  opened-origin k r v e = go (decided (is_round L r)) (decided (is_sound c p))
+  opened-origin k r v e = go (decided (is_round L r)) (decided (in_set S.sound p))
     where
       p : ℕ
-      p = coordinator c.n r
+      p = coordinator S.n r
 
       signed : signed_by L c p (identifier_of L Opening r) ≡ entry_of v
       signed = was-signed f.sane k p (identifier_of L Opening r) v e
 
-      go : (is_round L r ≡ true) ⊎ (is_round L r ≡ false) → (is_sound c p ≡ true) ⊎ (is_sound c p ≡ false)
+      go : (is_round L r ≡ true) ⊎ (is_round L r ≡ false) → (in_set S.sound p ≡ true) ⊎ (in_set S.sound p ≡ false)
           → Origin L S H v
       go (inl i) (inl s) = o.openings p r v s i signed
       go (inl i) (inr s) =
-          let q = coordinator-in c.n r g.some-board in
-          was-opened p r (within_in c.n p q.0 q.1, s) i refl ((y.signed p (identifier_of L Opening r) v).1 signed)
+          let q = coordinator-in S.n r g.some-board in
+          was-opened p r (within_in S.n p q.0 q.1, s) i refl ((y.signed p (identifier_of L Opening r) v).1 signed)
       go (inr i) s =
           absurd
           (entry-some
@@ -96,80 +93,84 @@ module _ {L : Limits} {H : History} {c : Bench} (g : Ground L (setup_of c)) (f :
           ∙ ap (heard_by L c k p) (identifier-none L Opening r i)
           ∙ heard-outside L (board_at L c k).delivered p 0 (within-zero L.identifiers 0 refl)))
 
-  module _ {e : Event} (acc : Accepted L c e) where
-    abbrev b : Board
-    b = board_at L c e.a
+module _ {L : Limits} {H : History} {c : Bench} (g : Ground L (setup_of c)) (f : Fit L (setup_of c) c)
+    (y : Tells L (setup_of c) H (view L c)) (o : Rooted L (setup_of c) H (view L c)) {e : Event} (acc : Accepted L c e) where
+  abbrev S : Setup
+  S = setup_of c
 
-    abbrev H' : History
-    H' = H then accepted e
+  abbrev b : Board
+  b = board_at L c e.a
 
-    kept-estimate : (k v : ℕ) → Sound L S k → v ≡ (board_at L c k).position.estimate → (v ≡ 0 → ⊥) → Origin L S H' v
-    kept-estimate k v s i n = rw i (origin-kept L S H (accepted e) _ (o.estimates k s (λ z. n (i ∙ z))))
+  abbrev H' : History
+  H' = H then accepted e
 
-    -- the estimate that an event leaves is as it was, was proposed, or was that of an opening that the board accepts
-    abbrev estimate : ℕ
-    estimate = (believing L c.n e.a (standing_of L b) e).position.estimate
+  kept-estimate : (k v : ℕ) → Sound L S k → v ≡ (board_at L c k).position.estimate → (v ≡ 0 → ⊥) → Origin L S H' v
+  kept-estimate k v s i n = rw i (origin-kept L S H (accepted e) _ (o.estimates k s (λ z. n (i ∙ z))))
 
-    estimate-comes : (estimate ≡ b.position.estimate)
-        ⊎ (((e.kind ≡ proposing) × (e.value ≡ estimate))
-        ⊎ (accepts_opening L c.n (heard_by L c e.a) b.position.round.0 estimate ≡ true))
-    unfolding believing
-    estimate-comes =
-        let p = starts-with b.position e.value in
-        let t = turn-estimate L c.n e.a b in
-        let v = turn-voting L c.n e.a b in
-        let w = acc.voting in
-        grind (arith, nat_tests)
+  -- the estimate that an event leaves is as it was, was proposed, or was that of an opening that the board accepts
+  abbrev estimate : ℕ
+  estimate = (believing L c.n e.a (standing_of L b) e).position.estimate
 
-    believed : Sound L S e.a → (estimate ≡ 0 → ⊥) → Origin L S H' estimate
-    believed s n =
-        ⊎_elim
-        (λ p. kept-estimate e.a estimate s p n)
-        (⊎_elim
-        (λ q. was-proposed e.a s (once-new H e _ (record { kind = q.0; board = refl; value = q.1 })))
-        (λ q.
-        let r = b.position.round.0 in
-        let heard = (opening-reads L c.n (heard_by L c e.a) r estimate q).said in
-        origin-kept L S H (accepted e) estimate (opened-origin e.a r estimate heard)))
-        estimate-comes
+  estimate-comes : (estimate ≡ b.position.estimate)
+      ⊎ (((e.kind ≡ proposing) × (e.value ≡ estimate))
+      ⊎ (accepts_opening L c.n (heard_by L c e.a) b.position.round.0 estimate ≡ true))
+  unfolding believing
+  estimate-comes =
+      let p = starts-with b.position e.value in
+      let t = turn-estimate L c.n e.a b in
+      let v = turn-voting L c.n e.a b in
+      let w = acc.voting in
+      grind (arith, nat_tests)
 
-    -- an opening that a sound board signs in its turn has its estimate
-    signed-origin : (k r v : ℕ) → Sound L S k → is_round L r ≡ true
-        → SignsNow L S (view L c).stands e k (identifier_of L Opening r) v → Origin L S H' v
-    signed-origin k r v s i (inr p) = absurd (true≢false (sym s ∙ p.0.1))
-    signed-origin k r v s i (inl p) =
-        go (turn-signs L c.n k (board_at L c k) _ (turn-says L c.n k (board_at L c k) votes ∙ p.1.says))
-      where
-        votes : (board_at L c k).status ≡ Voting
-        votes = rw p.1.board at (acc.voting p.1.kind)
+  believed : Sound L S e.a → (estimate ≡ 0 → ⊥) → Origin L S H' estimate
+  believed s n =
+      ⊎_elim
+      (λ p. kept-estimate e.a estimate s p n)
+      (⊎_elim
+      (λ q. was-proposed e.a s (once-new H e _ (record { kind = q.0; board = refl; value = q.1 })))
+      (λ q.
+      let r = b.position.round.0 in
+      let heard = (opening-reads L c.n (heard_by L c e.a) r estimate q).said in
+      origin-kept L S H (accepted e) estimate (opened-origin g f y o e.a r estimate heard)))
+      estimate-comes
 
-        go : Signs L c.n k (board_at L c k) (statement_of L k Opening r v) → Origin L S H' v
-        go (signs-opening x q m j) =
-            let z : (board_at L c k).position.estimate ≡ v = ap (λ (z : Statement). z.value) j in
-            kept-estimate k v s (sym z) (λ w. (f.proper k).estimate (ap is_started x ∙ started-voting) (z ∙ w))
-        go (signs-ballot x q j) =
-            absurd
-            (openings-apart
-            L
-            r
-            (board_at L c k).position.round.0
-            i
-            (voting-round L (board_at L c k) (f.proper k) x)
-            (sym (ap (λ (z : Statement). z.id.0) j)))
+  -- an opening that a sound board signs in its turn has its estimate
+  signed-origin : (k r v : ℕ) → Sound L S k → is_round L r ≡ true
+      → SignsNow L S (view L c).stands e k (identifier_of L Opening r) v → Origin L S H' v
+  signed-origin k r v s i (inr p) = absurd (true≢false (sym s ∙ p.0.1))
+  signed-origin k r v s i (inl p) =
+      go (turn-signs L c.n k (board_at L c k) _ (turn-says L c.n k (board_at L c k) votes ∙ p.1.says))
+    where
+      votes : (board_at L c k).status ≡ Voting
+      votes = rw p.1.board at (acc.voting p.1.kind)
 
-    pub rooted-accepted : Rooted L S H' (replay L S (view L c) e)
-    rooted-accepted =
-        record {
-          estimates =
-              λ k s n.
-              ⊎_elim
-              (λ q. rw q.1 (believed (rw q.0 at s) (rw q.1 at n)))
-              (λ q. rw q.1 (origin-kept L S H (accepted e) _ (o.estimates k s (rw q.1 at n))))
-              (put-cases (view L c).stands (replay L S (view L c) e).stands e.a _ (λ j. refl) k);
-          openings =
-              λ k r v s i j.
-              ⊎_elim
-              (λ q. origin-kept L S H (accepted e) v (o.openings k r v s i q))
-              (signed-origin k r v s i)
-              ((replay-signs (lawful g f acc) f.sane k (identifier_of L Opening r) v).0 j);
-        }
+      go : Signs L c.n k (board_at L c k) (statement_of L k Opening r v) → Origin L S H' v
+      go (signs-opening x q m j) =
+          let z : (board_at L c k).position.estimate ≡ v = ap (λ (z : Statement). z.value) j in
+          kept-estimate k v s (sym z) (λ w. (f.proper k).estimate (ap is_started x ∙ started-voting) (z ∙ w))
+      go (signs-ballot x q j) =
+          absurd
+          (openings-apart
+          L
+          r
+          (board_at L c k).position.round.0
+          i
+          (voting-round L (board_at L c k) (f.proper k) x)
+          (sym (ap (λ (z : Statement). z.id.0) j)))
+
+  pub rooted-accepted : Rooted L S H' (replay L S (view L c) e)
+  rooted-accepted =
+      record {
+        estimates =
+            λ k s n.
+            ⊎_elim
+            (λ q. rw q.1 (believed (rw q.0 at s) (rw q.1 at n)))
+            (λ q. rw q.1 (origin-kept L S H (accepted e) _ (o.estimates k s (rw q.1 at n))))
+            (put-cases (view L c).stands (replay L S (view L c) e).stands e.a _ (λ j. refl) k);
+        openings =
+            λ k r v s i j.
+            ⊎_elim
+            (λ q. origin-kept L S H (accepted e) v (o.openings k r v s i q))
+            (signed-origin k r v s i)
+            ((replay-signs (lawful g f acc) f.sane k (identifier_of L Opening r) v).0 j);
+      }

@@ -11,26 +11,9 @@ use Rattle.bench.specs.Setups.{Setup}
 use Rattle.bench.specs.Story.{Entry, History, standing_after}
 use Rattle.bench.specs.Claim.{Moment, Once, Delivers, Sound, SignedInTurn, Signed, Reached, Delivered, Spreads, by-signing, by-echo, Owed, NothingOwed, AllAlike}
 use Rattle.bench.specs.declared.event.Event.{Event}
-use Rattle.bench.proofs.MomentLaws.{accepted, Order, order}
+use Rattle.bench.proofs.MomentLaws.{accepted, Order, order, once-early}
 
--- what was so in the first part of a history was so in it
-pub once-early : (H B K : History) (P : History → Event → Type 0) → H ≡ B ++ K → Once B P → Once H P
-once-early H B K P e o =
-    record {
-      moment =
-          record {
-            before = o.moment.before;
-            event = o.moment.event;
-            later = o.moment.later ++ K;
-            whole =
-                e
-                ∙ ap (λ (w : History). w ++ K) o.moment.whole
-                ∙ append_assoc o.moment.before (accepted o.moment.event ∷ o.moment.later) K;
-          };
-      so = o.so;
-    }
-
--- and so was what was so in the rest, where it does not depend on what came before
+-- what was so in the rest of a history was so in it, where it does not depend on what came before
 pub once-late : (H B K : History) (x : Entry) (Q : Event → Type 0) → H ≡ B ++ (x ∷ K)
     → Once K (λ (B : History) (e : Event). Q e) → Once H (λ (B : History) (e : Event). Q e)
 once-late H B K x Q e o =
