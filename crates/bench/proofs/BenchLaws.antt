@@ -1,59 +1,19 @@
 -- Laws of a bench's boards and signers, each read back after a change. Assumes nothing.
 use Prim.Native.Nat.{ℕ, ◌+◌, ◌-◌, ◌<◌}
 use mathlib.Core.Path.{◌≡◌, ap, ◌∙◌}
-use mathlib.Core.Bool.{true}
 use lib.ListN.{length, get_or}
 use lib.Dec.{eqb}
 use native.Mathlib.Omega.{arith}
-use Rattle.signer.proofs.FromOneLaws.{nth-any, within_low, within-high, nth-set-same, nth-set-other, nth-replicate}
-use Rattle.signer.specs.Signer.{fresh_signer, sign}
+use Rattle.signer.proofs.FromOneLaws.{nth-any, nth-replicate}
+use Rattle.signer.specs.Signer.{fresh_signer}
 use Rattle.delivery.specs.Limits.{Limits}
-use Rattle.delivery.specs.Bus.{is_board}
 use Rattle.delivery.specs.Delivered.{heard}
 use Rattle.delivery.specs.Tests.{neg}
 use Rattle.vote.specs.Boards.{fresh_board}
 use Rattle.vote.specs.declared.board.Board.{Board}
 use Rattle.bench.specs.Benches.{board_at, signer_at, holds}
-use Rattle.bench.specs.Effects.{with_board_at, with_signature}
 use Rattle.bench.specs.Setups.{bench_of}
 use Rattle.bench.specs.declared.bench.Bench.{Bench}
-
-module _ (L : Limits) (c : Bench) where
-  -- board k is the one that was put there
-  pub board-same : (k : ℕ) (b : Board) → length c.boards ≡ L.boards → is_board L k ≡ true
-      → board_at L (with_board_at c k b) k ≡ b
-  unfolding board_at with_board_at
-  board-same k b size h =
-      nth-set-same
-      c.boards
-      k
-      b
-      (fresh_board L)
-      (within_low L.boards k h)
-      (omega (arith, size, within-high L.boards k h))
-
-  -- every other board is as it was
-  pub board-other : (j k : ℕ) (b : Board) → (j ≡ k → ⊥) → board_at L (with_board_at c k b) j ≡ board_at L c j
-  unfolding board_at with_board_at
-  board-other j k b h = nth-set-other c.boards j k b (fresh_board L) h
-
-  -- board k's signer is the one that was asked for the signature
-  pub signer-same : (k i v : ℕ) → length c.signers ≡ L.boards → is_board L k ≡ true
-      → signer_at L (with_signature L c k i v) k ≡ (sign L.identifiers (signer_at L c k) i v).signer
-  unfolding signer_at with_signature
-  signer-same k i v size h =
-      nth-set-same
-      c.signers
-      k
-      _
-      (fresh_signer L.identifiers)
-      (within_low L.boards k h)
-      (omega (arith, size, within-high L.boards k h))
-
-  -- every other signer is as it was
-  pub signer-other : (j k i v : ℕ) → (j ≡ k → ⊥) → signer_at L (with_signature L c k i v) j ≡ signer_at L c j
-  unfolding signer_at with_signature
-  signer-other j k i v h = nth-set-other c.signers j k _ (fresh_signer L.identifiers) h
 
 -- whether the board at index k has delivered a statement
 pub holds-at : (L : Limits) (c : Bench) (s i k : ℕ) (d : Board) → k < length c.boards

@@ -1,52 +1,158 @@
--- Laws of what an accepted event does, by its kind. Assumes nothing.
-use borrow.Author.Tests.{ne_eqb}
-use mathlib.Core.Path.{◌≡◌, ◌∙◌}
-use Rattle.signer.proofs.ConditionalLaws.{if-false}
+-- Laws of what an accepted event does: by its kind, and each board, each signer and what is owed, read back. Assumes
+-- nothing.
+use Prim.Native.Nat.{ℕ, ◌≤◌}
+use native.Mathlib.Omega.{arith}
+use mathlib.Core.Path.{◌≡◌, refl, ap, ◌∙◌}
+use lib.ListN.{length}
+use Rattle.std.specs.Prelude.{if◌then◌else◌, eqb, Option, None, Some}
+use Rattle.std.proofs.lemmas.Bool.Decides.{nat_tests}
+use Rattle.signer.specs.Signer.{sign}
+use Rattle.signer.specs.declared.signer.Signer.{Signer}
+use Rattle.signer.proofs.ConditionalLaws.{if-elim}
+use Rattle.signer.proofs.FromOneLaws.{nth-set-same, nth-set-other, length-set_nth, within_low}
 use Rattle.delivery.specs.Limits.{Limits}
+use Rattle.delivery.specs.Owed.{after_signing, after_delivery}
+use Rattle.delivery.specs.declared.owed.Owed.{Owed}
 use Rattle.vote.specs.Boards.{propose, suspect, trust}
 use Rattle.vote.specs.Announcements.{announce}
-use Rattle.bench.specs.Events.{proposing, turning, delivering, announcing, suspecting, trusting}
-use Rattle.bench.specs.Benches.{board_at}
-use Rattle.bench.specs.Effects.{with_board_at, with_signature, after_turn, after_hearing, brought, effect_of}
+use Rattle.vote.specs.Turns.{turn}
+use Rattle.vote.specs.Calls.{Call, proposal, own_turn, delivery, suspicion, restored-trust, announcement, called}
+use Rattle.vote.specs.declared.board.Board.{Board}
+use Rattle.vote.specs.declared.statement.Statement.{Statement}
+use Rattle.vote.proofs.LifeLaws.{called-proposal, called-turn, called-delivery, called-announcement, called-suspicion, called-trust}
+use Rattle.bench.specs.Events.{proposing, turning, delivering, announcing, suspecting, trusting, signing}
+use Rattle.bench.specs.Benches.{board_at, signer_at, holders}
+use Rattle.bench.specs.Effects.{with_board_at, with_signature, with_owed, after_saying, after_turn, after_hearing, brought, effect_of}
 use Rattle.bench.specs.declared.bench.Bench.{Bench}
 use Rattle.bench.specs.declared.event.Event.{Event}
+use Rattle.bench.proofs.ViewLaws.{put}
+use Rattle.bench.proofs.AcceptedLaws.{Accepted}
+
+-- the call that an event is
+unfoldable pub call_of : Event → Call
+call_of e =
+    if eqb e.kind proposing then proposal e.value
+    else if eqb e.kind turning then own_turn
+    else if eqb e.kind delivering then delivery (brought e)
+    else if eqb e.kind announcing then announcement e.id e.value
+    else if eqb e.kind suspecting then suspicion e.b
+    else restored-trust e.b
 
 module _ (L : Limits) (c : Bench) (e : Event) where
-  pub effect-proposing : e.kind ≡ proposing → effect_of L c e ≡ with_board_at c e.a (propose (board_at L c e.a) e.value)
+  abbrev b : Board
+  b = board_at L c e.a
+
+  abbrev pub c' : Bench
+  c' = effect_of L c e
+
+  pub effect-proposing : e.kind ≡ proposing → c' ≡ with_board_at c e.a (propose b e.value)
   unfolding effect_of
   effect-proposing k = rw k
 
-  pub effect-turning : e.kind ≡ turning → effect_of L c e ≡ after_turn L c e.a
+  effect-turning : e.kind ≡ turning → c' ≡ after_turn L c e.a
   unfolding effect_of
   effect-turning k = rw k
 
-  pub effect-delivering : e.kind ≡ delivering
-      → effect_of L c e ≡ after_hearing L c e.a (brought e)
+  effect-delivering : e.kind ≡ delivering → c' ≡ after_hearing L c e.a (brought e)
   unfolding effect_of
   effect-delivering k = rw k
 
-  pub effect-announcing : e.kind ≡ announcing
-      → effect_of L c e ≡ with_board_at c e.a (announce L c.n (board_at L c e.a) e.id e.value)
+  pub effect-announcing : e.kind ≡ announcing → c' ≡ with_board_at c e.a (announce L c.n b e.id e.value)
   unfolding effect_of
   effect-announcing k = rw k
 
-  pub effect-suspecting : e.kind ≡ suspecting → effect_of L c e ≡ with_board_at c e.a (suspect (board_at L c e.a) e.b)
+  pub effect-suspecting : e.kind ≡ suspecting → c' ≡ with_board_at c e.a (suspect b e.b)
   unfolding effect_of
   effect-suspecting k = rw k
 
-  pub effect-trusting : e.kind ≡ trusting → effect_of L c e ≡ with_board_at c e.a (trust (board_at L c e.a) e.b)
+  pub effect-trusting : e.kind ≡ trusting → c' ≡ with_board_at c e.a (trust b e.b)
   unfolding effect_of
   effect-trusting k = rw k
 
-  -- an event of no other kind has its board's signer asked for a signature
-  pub effect-signing : (e.kind ≡ proposing → ⊥) → (e.kind ≡ turning → ⊥) → (e.kind ≡ delivering → ⊥)
-      → (e.kind ≡ announcing → ⊥) → (e.kind ≡ suspecting → ⊥) → (e.kind ≡ trusting → ⊥)
-      → effect_of L c e ≡ with_signature L c e.a e.id e.value
-  unfolding effect_of
-  effect-signing p t d a s u =
-      if-false _ _ _ (ne_eqb _ _ p)
-      ∙ if-false _ _ _ (ne_eqb _ _ t)
-      ∙ if-false _ _ _ (ne_eqb _ _ d)
-      ∙ if-false _ _ _ (ne_eqb _ _ a)
-      ∙ if-false _ _ _ (ne_eqb _ _ s)
-      ∙ if-false _ _ _ (ne_eqb _ _ u)
+  -- its board then, and that this is as it was or as a call has made it
+  unfoldable pub board_then : Board
+  board_then = if eqb e.kind signing then b else called L c.n e.a b (call_of e)
+
+  pub each-board : (P : Board → Type 0) → P b → ((x : Call) → P (called L c.n e.a b x)) → P board_then
+  unfolding board_then
+  each-board P p q = if-elim P (eqb e.kind signing) _ _ (λ t. p) (λ t. q (call_of e))
+
+  -- what its signer is asked to sign, and the signer then
+  unfoldable pub said_then : Option Statement
+  said_then =
+      if eqb e.kind turning then (turn L c.n e.a b).signed
+      else if eqb e.kind signing then Some (record { speaker = e.a; id = record { 0 = e.id }; value = e.value })
+      else None
+
+  unfoldable pub asked_for : Signer → Option Statement → Signer
+  asked_for s None = s
+  asked_for s (Some x) = (sign L.identifiers s x.id.0 x.value).signer
+
+  -- what is owed once it has said something in its turn
+  unfoldable pub owed_saying : Option Statement → Owed
+  owed_saying None = c.owed
+  owed_saying (Some x) = after_signing L c.owed e.a x.id.0 c.sound (holders L c e.a x.id.0)
+
+  saying-owed : (x : Option Statement) → (after_saying L c e.a x).owed ≡ owed_saying x
+  unfolding after_saying with_owed owed_saying
+  saying-owed None = refl
+  saying-owed (Some x) = refl
+
+  pub owed-turning : e.kind ≡ turning → c'.owed ≡ owed_saying (turn L c.n e.a b).signed
+  unfolding after_turn with_board_at
+  owed-turning k = ap (λ (d : Bench). d.owed) (effect-turning k) ∙ saying-owed (turn L c.n e.a b).signed
+
+  pub owed-delivering : e.kind ≡ delivering
+      → c'.owed ≡ after_delivery L c.owed e.a e.b e.id c.sound (holders L c e.b e.id)
+  unfolding after_hearing with_board_at with_owed
+  owed-delivering k = ap (λ (d : Bench). d.owed) (effect-delivering k)
+
+  pub owed-kept : (e.kind ≡ turning → ⊥) → (e.kind ≡ delivering → ⊥) → c'.owed ≡ c.owed
+  unfolding effect_of with_board_at with_signature
+  owed-kept t d = grind (arith, nat_tests)
+
+  -- the copies are as they were, or as a signature or a delivery has made them
+  pub each-owed : (P : Owed → Type 0) → P c.owed → ((s i sound have : ℕ) → P (after_signing L c.owed s i sound have))
+      → ((j s i sound have : ℕ) → P (after_delivery L c.owed j s i sound have)) → P c'.owed
+  unfolding effect_of after_turn after_hearing after_saying with_board_at with_signature with_owed
+  each-owed P p q r = grind (arith, nat_tests)
+
+  -- how many boards and signers there are, and which are sound, stays
+  pub same-bus : (c'.n ≡ c.n) × (c'.sound ≡ c.sound)
+  unfolding effect_of after_turn after_hearing after_saying with_board_at with_signature with_owed
+  same-bus = (grind (arith, nat_tests), grind (arith, nat_tests))
+
+  pub same-sizes : (length c'.boards ≡ length c.boards) × (length c'.signers ≡ length c.signers)
+  unfolding effect_of after_turn after_hearing after_saying with_board_at with_signature with_owed
+  same-sizes = (grind (arith, nat_tests, length-set_nth), grind (arith, nat_tests, length-set_nth))
+
+-- each board and each signer of a bench that has those of its bus
+module _ {L : Limits} {c : Bench} {e : Event} (acc : Accepted L c e) where
+  pub boards-then : e.a ≤ length c.boards → (k : ℕ)
+      → board_at L (c' L c e) k ≡ put (board_at L c) e.a (board_then L c e) k
+  unfolding effect_of after_turn after_hearing after_saying with_board_at with_signature with_owed board_at put board_then call_of
+  boards-then h k =
+      let low = within_low c.n e.a acc.within in
+      let first = acc.low in
+      let last = acc.high in
+      grind (
+        arith,
+        nat_tests,
+        nth-set-same,
+        nth-set-other,
+        called-proposal,
+        called-turn,
+        called-delivery,
+        called-announcement,
+        called-suspicion,
+        called-trust,
+      )
+
+  pub signers-then : e.a ≤ length c.signers → (k : ℕ)
+      → signer_at L (c' L c e) k ≡ put (signer_at L c) e.a (asked_for L c e (signer_at L c e.a) (said_then L c e)) k
+  unfolding effect_of after_turn after_hearing after_saying with_board_at with_signature with_owed signer_at put said_then asked_for
+  signers-then h k =
+      let low = within_low c.n e.a acc.within in
+      let first = acc.low in
+      let last = acc.high in
+      grind (arith, nat_tests, nth-set-same, nth-set-other)

@@ -4,7 +4,6 @@
 -- the rules by which private calls are proved.
 pub mod TableLaws
 pub mod TurnLaws
-pub mod EffectLaws
 pub mod BenchLaws
 pub mod AnswerLaws
 pub mod RunLaws
@@ -12,17 +11,19 @@ pub mod ShowLaws
 pub mod ExampleLaws
 pub mod MomentLaws
 pub mod HistoryLaws
-pub mod LegalLaws
-pub mod ChangeLaws
-pub mod FitLaws
-pub mod SetupLaws
-pub mod ReadingLaws
-pub mod OwingLaws
-pub mod StepLaws
-pub mod AccountLaws
+pub mod OwedLaws
+pub mod ViewLaws
+pub mod ReplayLaws
 pub mod TellsLaws
+pub mod AcceptedLaws
+pub mod EffectLaws
+pub mod SpreadLaws
+pub mod FitLaws
+pub mod SquareLaws
+pub mod InvariantLaws
 pub mod OriginLaws
 pub mod ClaimLaws
+pub mod SetupLaws
 pub mod OutsetLaws
 pub mod Demands
 pub mod AppliesLaws

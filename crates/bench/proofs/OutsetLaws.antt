@@ -1,101 +1,135 @@
--- Before the first event: the empty history tells what a fresh bench shows, which is nothing. Assumes nothing.
+-- Before the first event: the fresh bench shows nothing, which is what the empty history tells. Assumes nothing.
 use Prim.Native.Nat.{ℕ}
 use native.Mathlib.Omega.{arith}
-use mathlib.Core.Path.{◌≡◌, sym, ap, ◌∙◌, fun_ext}
+use mathlib.Core.Path.{◌≡◌, refl, sym, ap, ◌∙◌, fun_ext}
 use mathlib.Core.Bool.{true≢false}
 use mathlib.Core.List.{[]}
-use mathlib.Core.Logic.{⊎_elim}
+use mathlib.Core.Logic.{⊎_elim, inl, inr}
+use lib.ListN.{length-replicate}
+use Rattle.signer.specs.Log.{entry_at}
+use Rattle.signer.specs.Signer.{fresh_signer}
+use Rattle.signer.specs.declared.signer.Signer.{Signer}
+use Rattle.signer.proofs.SignerLaws.{fresh-last, fresh-wellformed}
+use Rattle.signer.proofs.GrantLaws.{fresh-entry}
 use Rattle.delivery.specs.Limits.{Limits}
 use Rattle.delivery.specs.Sets.{in_set}
-use Rattle.delivery.specs.Delivered.{Store}
+use Rattle.delivery.specs.Delivered.{heard}
 use Rattle.delivery.proofs.SetLaws.{in-none}
-use Rattle.delivery.proofs.OwedLaws.{owed-nothing}
-use Rattle.vote.specs.Boards.{decision_of, fresh_position}
-use Rattle.vote.specs.declared.board.Board.{Board}
+use Rattle.delivery.proofs.DeliveredLaws.{heard-nothing}
+use Rattle.delivery.proofs.OwedLaws.{nothing-whole, owed-nothing}
+use Rattle.vote.specs.Boards.{fresh_board}
 use Rattle.vote.specs.declared.position.Position.{Position}
-use Rattle.vote.proofs.StatusLaws.{idle-decided}
-use Rattle.vote.proofs.BoardLaws.{fresh-position, fresh-status, fresh-estimate}
-use Rattle.bench.specs.Benches.{board_at, heard_by}
+use Rattle.vote.proofs.BoardLaws.{fresh-position, fresh-estimate, fresh-delivered, fresh-status}
+use Rattle.vote.specs.declared.board.Board.{Board}
+use Rattle.vote.specs.declared.board.Status.TheVariants.{Idle}
+use Rattle.vote.proofs.ProperLaws.{fresh-proper}
+use Rattle.vote.proofs.LifeLaws.{fresh-grounded}
+use Rattle.bench.specs.Benches.{heard_by, signed_by}
 use Rattle.bench.specs.Setups.{Setup, bench_of}
-use Rattle.bench.specs.Story.{outset, standing_after}
-use Rattle.bench.specs.Claim.{Sound, Faulty, SignedInTurn, Asked, Signed, Reached, Delivered, Decided, Owed}
+use Rattle.bench.specs.Story.{outset}
+use Rattle.bench.specs.Claim.{Signed, Delivered, Decided}
 use Rattle.bench.specs.declared.bench.Bench.{Bench}
-use Rattle.bench.proofs.BenchLaws.{board-fresh}
-use Rattle.bench.proofs.MomentLaws.{moment-none, once-none, standing-none}
-use Rattle.bench.proofs.SetupLaws.{heard-fresh, signed-fresh, fresh-fit}
-use Rattle.bench.proofs.AccountLaws.{standing_of}
+use Rattle.bench.proofs.BenchLaws.{board-fresh, signer-fresh}
+use Rattle.bench.proofs.MomentLaws.{once-none, standing-none}
+use Rattle.bench.proofs.ViewLaws.{View, standing_of, view}
+use Rattle.bench.proofs.FitLaws.{Fit}
 use Rattle.bench.proofs.TellsLaws.{Tells}
+use Rattle.bench.proofs.OriginLaws.{Rooted}
 use Rattle.bench.proofs.ClaimLaws.{Sure}
+
+-- what is seen where nothing has happened
+abbrev nothing : View
+nothing = record { stands = λ (k : ℕ). outset; status = λ (k : ℕ). Idle; signed = λ (s i : ℕ). 0 }
 
 module _ (L : Limits) (S : Setup) where
   abbrev empty : Bench
   empty = bench_of L S.n S.sound
 
+  stands-fresh : standing_of L (fresh_board L) ≡ outset
+  unfolding outset
+  stands-fresh =
+      let p = fresh-position L in
+      let q = ap (heard L) (fresh-delivered L) ∙ fun_ext (λ (s : ℕ). fun_ext (heard-nothing L s)) in
+      cc
+
+  sees-nothing : view L empty ≡ nothing
+  unfolding signed_by
+  sees-nothing =
+      λ j.
+      record {
+        stands = fun_ext (λ (k : ℕ). ap (standing_of L) (board-fresh L S.n S.sound k) ∙ stands-fresh) j;
+        status = fun_ext (λ (k : ℕ). ap (λ (b : Board). b.status) (board-fresh L S.n S.sound k) ∙ fresh-status L) j;
+        signed =
+            fun_ext
+            (λ (k : ℕ).
+            let s = signer-fresh L S.n S.sound k in
+            fun_ext (λ (i : ℕ). ap (λ (s : Signer). entry_at s.log i) s ∙ fresh-entry L.identifiers i))
+            j;
+      }
+
+  heard-fresh : (k s i : ℕ) → heard_by L empty k s i ≡ 0
+  unfolding outset
+  heard-fresh k s i = ap (λ (V : View). (V.stands k).heard s i) sees-nothing
+
   -- nothing has happened
   not-signed : (k i v : ℕ) → Signed L S [] k i v → ⊥
-  not-signed k i v =
-      ⊎_elim
-      (λ (p : Sound L S k × SignedInTurn L S [] k i v). once-none _ p.1)
-      (λ (p : Faulty L S k × Asked L S [] k i v). once-none _ p.1)
+  not-signed k i v (inl p) = once-none _ p.1
+  not-signed k i v (inr p) = once-none _ p.1
 
   not-delivered : (k s i v : ℕ) → Delivered L S [] k s i v → ⊥
-  not-delivered k s i v p =
-      ⊎_elim
-      (λ (q : (s ≡ k) × Signed L S [] k i v). not-signed k i v q.1)
-      (λ (q : Reached L S [] k s i v). once-none _ q)
-      p.1
+  not-delivered k s i v (t, inl p) = not-signed k i v p.1
+  not-delivered k s i v (t, inr p) = once-none _ p
 
   not-decided : (k r v : ℕ) → Decided L S [] k r v → ⊥
   not-decided k r v p = ⊎_elim (once-none _) (once-none _) p.1
 
-  stands-fresh : (k : ℕ) → standing_after L S.n k [] ≡ standing_of L (board_at L empty k)
+  tells-nothing : Tells L S [] nothing
   unfolding outset
-  stands-fresh k =
-      standing-none L S.n k
-      ∙ ap
-      (λ (h : Store). record { position = fresh_position; heard = h })
-      (fun_ext (λ (s : ℕ). fun_ext (λ (i : ℕ). sym (heard-fresh L S.n S.sound k s i))))
-      ∙ ap
-      (λ (p : Position). record { position = p; heard = heard_by L empty k })
-      (sym (ap (λ (b : Board). b.position) (board-fresh L S.n S.sound k) ∙ fresh-position L))
-
-  tells-fresh : Tells L S [] empty
-  unfolding bench_of
-  tells-fresh =
+  tells-nothing =
       record {
-        stands = stands-fresh;
-        signed = λ k i v. (λ p. absurd (not-signed k i v p), λ e. absurd (signed-fresh L S.n S.sound k i v e));
-        delivered =
-            λ k s i v. (
-              λ p. absurd (not-delivered k s i v p),
-              λ e. absurd (omega (arith, heard-fresh L S.n S.sound k s i, e)),
+        stands = λ k. standing-none L S.n k;
+        signed = λ k i v. (λ p. absurd (not-signed k i v p), λ e. absurd (omega (arith, e)));
+        delivered = λ k s i v. (λ p. absurd (not-delivered k s i v p), λ e. absurd (omega (arith, e)));
+        decided = λ k r v. (λ p. absurd (not-decided k r v p), λ e. let q = e.1 in absurd (cc));
+      }
+
+  rooted-nothing : Rooted L S [] nothing
+  unfolding outset
+  rooted-nothing =
+      record {
+        estimates = λ k s n. absurd (n (ap (λ (p : Position). p.estimate) (sym (fresh-position L)) ∙ fresh-estimate L));
+        openings = λ k r v s i e. absurd (omega (arith, e));
+      }
+
+  fresh-fit : Fit L S empty
+  unfolding bench_of outset
+  fresh-fit =
+      record {
+        boards = length-replicate L.boards (fresh_board L);
+        signers = length-replicate L.boards (fresh_signer L.identifiers);
+        complete = nothing-whole L;
+        proper = λ k. rw (board-fresh L S.n S.sound k) (fresh-proper L);
+        grounded = λ k. rw (board-fresh L S.n S.sound k) (fresh-grounded L S.n);
+        formed = λ k. rw (signer-fresh L S.n S.sound k) (fresh-wellformed L.identifiers);
+        apart = λ k f. board-fresh L S.n S.sound k;
+        ahead =
+            λ k t.
+            let z = ap (λ (x : Signer). x.last.0) (signer-fresh L S.n S.sound k) ∙ fresh-last L.identifiers in
+            omega (arith, z);
+        spread =
+            λ k s i. (
+              λ h. absurd (true≢false (sym h ∙ ap (λ (m : ℕ). in_set m k) (owed-nothing L s i) ∙ in-none k)),
+              λ l. absurd (l.holder-has (heard-fresh l.holder s i)),
             );
-        decided =
-            λ k r v. (
-              λ p. absurd (not-decided k r v p),
-              λ e.
-                  absurd
-                  (idle-decided
-                  (decision_of r v)
-                  (sym (ap (λ (b : Board). b.status) (board-fresh L S.n S.sound k) ∙ fresh-status L) ∙ e.1)),
-            );
-        owed =
-            λ k s i v. (
-              λ (p : Owed L S [] k s i v). absurd (moment-none p.moment),
-              λ e. absurd (true≢false (sym e.0 ∙ ap (λ (m : ℕ). in_set m k) (owed-nothing L s i) ∙ in-none k)),
-            );
+        sane = rw sees-nothing (record { part = λ k s i. inl refl; own = λ k i t. refl });
       }
 
   pub sure-fresh : Sure L S [] empty
+  unfolding bench_of
   sure-fresh =
       record {
-        fit = fresh-fit L S;
-        tells = tells-fresh;
-        rooted =
-            record {
-              estimates =
-                  λ k s n.
-                  absurd (n (ap (λ (b : Board). b.position.estimate) (board-fresh L S.n S.sound k) ∙ fresh-estimate L));
-              openings = λ k r v s i e. absurd (signed-fresh L S.n S.sound k _ v e);
-            };
+        bus = refl;
+        fit = fresh-fit;
+        tells = rw sees-nothing tells-nothing;
+        rooted = rw sees-nothing rooted-nothing;
       }

@@ -2,52 +2,30 @@
 use Prim.Native.Nat.{ℕ, ◌+◌, ◌≤◌, ◌<◌}
 use native.Mathlib.Decide.{dec_le}
 use native.Mathlib.Omega.{arith}
-use mathlib.Core.Path.{◌≡◌, refl, sym, ap, subst, subst⁻¹, ◌∙◌, fun_ext}
+use mathlib.Core.Path.{◌≡◌, refl, sym, ap, ◌∙◌, fun_ext}
 use mathlib.Core.Bool.{Bool, true, false, true≢false}
 use mathlib.Core.List.{List}
 use mathlib.Core.Logic.{⊎_elim}
 use lib.Dec.{eqb}
-use lib.ListN.{length-replicate}
 use Rattle.signer.specs.FromOne.{is_within, nth}
 use Rattle.std.specs.Prelude.{Result, Ok, Err, if◌then◌else◌}
-use Rattle.signer.specs.Log.{entry_at, entry_of}
-use Rattle.signer.specs.Signer.{fresh_signer}
-use Rattle.signer.specs.declared.signer.Signer.{Signer}
-use Rattle.signer.proofs.ConditionalLaws.{if-true, if-elim}
-use Rattle.signer.proofs.FromOneLaws.{within_low, within-high, within-out}
-use Rattle.signer.proofs.SignerLaws.{WellFormed, fresh-last, fresh-unsigned, fresh-wellformed}
+use Rattle.signer.proofs.ConditionalLaws.{if-true}
+use Rattle.signer.proofs.FromOneLaws.{within_low, within-high, within_in, within-out}
 use Rattle.delivery.specs.Limits.{Limits, limits}
 use Rattle.delivery.specs.Bus.{is_board}
 use Rattle.delivery.specs.Counting.{every_in}
 use Rattle.delivery.specs.Sets.{in_set, set_of, with_board}
-use Rattle.delivery.specs.Delivered.{heard}
-use Rattle.delivery.specs.declared.delivered.Delivered.{Delivered}
 use Rattle.delivery.proofs.TestLaws.{decided, fails}
 use Rattle.delivery.proofs.CountLaws.{every-reads, reads-every}
-use Rattle.delivery.proofs.SetLaws.{in-set_of-outside, in-none, set-none, with-next}
-use Rattle.delivery.proofs.DeliveredLaws.{heard-nothing}
-use Rattle.delivery.proofs.OwedLaws.{nothing-whole, owed-nothing}
-use Rattle.vote.specs.Boards.{fresh_board}
-use Rattle.vote.specs.declared.board.Board.{Board}
-use Rattle.vote.proofs.BoardLaws.{fresh-delivered}
-use Rattle.vote.proofs.ProperLaws.{Proper, fresh-proper}
-use Rattle.vote.proofs.LifeLaws.{Grounded, fresh-grounded}
-use Rattle.bench.specs.Benches.{signer_at, heard_by, signed_by}
-use Rattle.bench.specs.Setups.{is_mark, is_mark_at, is_marked_sound, Setup, fresh_answer, setup_by, setup, bench_of, fresh_bench, fresh_of}
-use Rattle.bench.specs.Answers.{setup_number, fresh_number}
+use Rattle.delivery.proofs.SetLaws.{in-set_of-outside, set-none, with-next}
+use Rattle.bench.specs.Setups.{is_mark, is_mark_at, is_marked_sound, Setup, alone, fresh_answer, setup_by, setup, bench_of, fresh_bench, fresh_of}
 use Rattle.bench.specs.declared.answer.SetupFault.{SetupFault}
 use Rattle.bench.specs.declared.answer.SetupFault.TheVariants.{NoBus, NoMark}
-use Rattle.bench.specs.declared.bench.Bench.{Bench}
-use Rattle.bench.proofs.BenchLaws.{board-fresh, signer-fresh}
-use Rattle.bench.proofs.FitLaws.{Ground, Fit}
+use Rattle.bench.proofs.FitLaws.{Ground}
 
 -- the members of a set of 1 to n are among them, and the set of board 1 alone is such a set
 pub in_within : (n : ℕ) (p : ℕ → Bool) (k : ℕ) → in_set (set_of n p) k ≡ true → is_within n k ≡ true
-in_within n p k t =
-    ⊎_elim
-    (λ w. w)
-    (λ f. absurd (true≢false (sym t ∙ in-set_of-outside n p k (within-out n k f))))
-    (decided (is_within n k))
+in_within n p k t = let o = in-set_of-outside n p k in let w = within-out n k in grind arith
 
 abbrev pub all : ℕ → Bool
 all k = true
@@ -64,21 +42,26 @@ fresh-bench L n marks = refl
 
 -- marks that read alike make one bench
 module _ (ms rs : List ℕ) (e : (k : ℕ) → nth ms k 0 ≡ nth rs k 0) where
+  read-alike : is_mark_at ms ≡ is_mark_at rs
+  unfolding is_mark_at
+  read-alike = fun_ext (λ k. ap is_mark (e k))
+
+  sound-alike : is_marked_sound ms ≡ is_marked_sound rs
+  unfolding is_marked_sound
+  sound-alike = fun_ext (λ k. ap (λ (m : ℕ). eqb m 0) (e k))
+
   setup-alike : (a : Result (Unit {0}) SetupFault) (n : ℕ) → setup_by a n ms ≡ setup_by a n rs
-  unfolding setup_by is_marked_sound
-  setup-alike (Ok _) n = ap (λ (p : ℕ → Bool). record { n = n; sound = set_of n p }) (fun_ext (λ k. ap (λ (m : ℕ). eqb m 0) (e k)))
+  unfolding setup_by
+  setup-alike (Ok _) n = rw sound-alike
   setup-alike (Err _) n = refl
 
   answer-alike : (L : Limits) (n : ℕ) → fresh_answer L n ms ≡ fresh_answer L n rs
-  unfolding fresh_answer is_mark_at
-  answer-alike L n = ap (λ (p : ℕ → Bool). if is_board L n then (if every_in n p then Ok tt else Err NoMark) else Err NoBus) (fun_ext (λ k. ap is_mark (e k)))
+  unfolding fresh_answer
+  answer-alike L n = rw read-alike
 
   pub fresh-alike : (L : Limits) (n : ℕ) → fresh_bench L n ms ≡ fresh_bench L n rs
   unfolding fresh_bench
-  fresh-alike L n =
-      ap
-      (λ (s : Setup). bench_of L s.n s.sound)
-      (ap (λ (a : Result (Unit {0}) SetupFault). setup_by a n ms) (answer-alike L n) ∙ setup-alike (fresh_answer L n rs) n)
+  fresh-alike L n = rw (answer-alike L n, setup-alike (fresh_answer L n rs) n)
 
 -- none of no marks is wrong; one more is a mark if it is read as one; and where it is not, not all of them are
 pub marks-none : (marks : List ℕ) → every_in 0 (is_mark_at marks) ≡ true
@@ -93,97 +76,40 @@ marks-next i marks h g = reads-every (i + 1) _ (λ k l u. go k l u (dec_le k i))
     go k l u (yes b) = every-reads i _ h k l b
     go k l u (no b) = let e : k ≡ i + 1 = omega arith in ap (λ (j : ℕ). is_mark (nth marks j 0)) e ∙ g
 
-pub marks-fail : (n i : ℕ) (marks : List ℕ) → i < n → is_mark (nth marks (i + 1) 0) ≡ false → every_in n (is_mark_at marks) ≡ false
+pub marks-fail : (n i : ℕ) (marks : List ℕ) → i < n → is_mark (nth marks (i + 1) 0) ≡ false
+    → every_in n (is_mark_at marks) ≡ false
 unfolding is_mark_at
 marks-fail n i marks l f = fails _ (λ h. true≢false (sym (every-reads n _ h (i + 1) (omega arith) (omega arith)) ∙ f))
 
--- a bench that is made has a number of boards that there can be
-made-board : (L : Limits) (n : ℕ) (marks : List ℕ) → fresh_answer L n marks ≡ Ok tt → is_board L n ≡ true
-unfolding fresh_answer fresh_number setup_number
-made-board L n marks =
-    if-elim
-    (λ (a : Result (Unit {0}) SetupFault). a ≡ Ok tt → is_board L n ≡ true)
-    (is_board L n)
-    _
-    (Err NoBus)
-    (λ t e. t)
-    (λ f e. let z : 2 ≡ 0 = ap fresh_number e in absurd (omega (arith, z)))
-
--- and one is made for such a number, if the marks are marks
+-- a bench is made for a number of boards that there can be, if the marks are marks
 pub board-made : (L : Limits) (n : ℕ) (marks : List ℕ) → is_board L n ≡ true
     → ((k : ℕ) → 1 ≤ k → k ≤ n → is_mark (nth marks k 0) ≡ true) → fresh_answer L n marks ≡ Ok tt
 unfolding fresh_answer is_mark_at
 board-made L n marks t m = if-true _ _ _ t ∙ if-true _ _ _ (reads-every n (is_mark_at marks) m)
 
-alone-ground : (n : ℕ) (marks : List ℕ) → Ground limits (setup_by (Err NoBus) n marks)
-unfolding setup_by
-alone-ground n marks =
+-- the limits have room, and what the call asks for, or one sound board, is within them
+board-ground : (S : Setup) → is_board limits S.n ≡ true → ((k : ℕ) → in_set S.sound k ≡ true → is_within S.n k ≡ true)
+    → Ground limits S
+board-ground S t m =
     record {
       some-round = omega arith;
       identifiers-enough = omega arith;
       bits-enough = omega arith;
-      some-board = omega arith;
-      boards-enough = omega arith;
-      members = λ k t. in_within 1 all k (subst (λ (m : ℕ). in_set m k ≡ true) alone-set t);
+      some-board = within_low limits.boards S.n t;
+      boards-enough = within-high limits.boards S.n t;
+      members = m;
     }
 
-ground-by : (n : ℕ) (marks : List ℕ) (a : Result (Unit {0}) SetupFault) → (a ≡ Ok tt → is_board limits n ≡ true) → Ground limits (setup_by a n marks)
+ground-by : (n : ℕ) (marks : List ℕ) (a : Result (Unit {0}) SetupFault) → (a ≡ Ok tt → is_board limits n ≡ true)
+    → Ground limits (setup_by a n marks)
 unfolding setup_by
-ground-by n marks (Ok _) h =
-    record {
-      some-round = omega arith;
-      identifiers-enough = omega arith;
-      bits-enough = omega arith;
-      some-board = within_low limits.boards n (h refl);
-      boards-enough = within-high limits.boards n (h refl);
-      members = in_within n _;
-    }
-ground-by n marks (Err _) h = alone-ground n marks
+ground-by n marks (Ok _) h = board-ground _ (h refl) (in_within n (is_marked_sound marks))
+ground-by n marks (Err _) h =
+    board-ground
+    alone
+    (within_in limits.boards 1 (omega arith) (omega arith))
+    (λ k t. in_within 1 all k (rw alone-set at t))
 
 pub limits-ground : (n : ℕ) (marks : List ℕ) → Ground limits (setup limits n marks)
-limits-ground n marks = ground-by n marks (fresh_answer limits n marks) (made-board limits n marks)
-
--- on a fresh bench nothing is heard and nothing is signed
-module _ (L : Limits) (n sound : ℕ) where
-  abbrev empty : Bench
-  empty = bench_of L n sound
-
-  pub heard-fresh : (k s i : ℕ) → heard_by L empty k s i ≡ 0
-  heard-fresh k s i =
-      ap (λ (b : Board). heard L b.delivered s i) (board-fresh L n sound k)
-      ∙ ap (λ (d : Delivered). heard L d s i) (fresh-delivered L)
-      ∙ heard-nothing L s i
-
-  pub signed-fresh : (s i v : ℕ) → signed_by L empty s i ≡ entry_of v → ⊥
-  unfolding signed_by
-  signed-fresh s i v h =
-      fresh-unsigned
-      L.identifiers
-      i
-      v
-      (subst (λ (x : Signer). entry_at x.log i ≡ entry_of v) (signer-fresh L n sound s) h)
-
-  last-fresh : (k : ℕ) → (signer_at L empty k).last.0 ≡ 0
-  last-fresh k = ap (λ (x : Signer). x.last.0) (signer-fresh L n sound k) ∙ fresh-last L.identifiers
-
--- and it is fit
-pub fresh-fit : (L : Limits) (S : Setup) → Fit L S (bench_of L S.n S.sound)
-unfolding bench_of
-fresh-fit L S =
-    record {
-      same-n = refl;
-      same-sound = refl;
-      boards-size = length-replicate L.boards (fresh_board L);
-      signers-size = length-replicate L.boards (fresh_signer L.identifiers);
-      complete = nothing-whole L;
-      proper = λ k. subst⁻¹ (Proper L) (board-fresh L S.n S.sound k) (fresh-proper L);
-      grounded = λ k. subst⁻¹ (Grounded L S.n) (board-fresh L S.n S.sound k) (fresh-grounded L S.n);
-      formed = λ k.
-          subst⁻¹ (WellFormed L.identifiers) (signer-fresh L S.n S.sound k) (fresh-wellformed L.identifiers);
-      apart = λ k f. board-fresh L S.n S.sound k;
-      heard-was-signed = λ k s i v h. absurd (omega (arith, heard-fresh L S.n S.sound k s i, h));
-      own = λ k i v t h. absurd (signed-fresh L S.n S.sound k i v h);
-      ahead = λ k t. omega (arith, last-fresh L S.n S.sound k);
-      owed-lacking = λ k s i h. absurd (true≢false (sym h ∙ ap (λ (m : ℕ). in_set m k) (owed-nothing L s i) ∙ in-none k));
-      lacking-owed = λ k s i l. absurd (l.holder-has (heard-fresh L S.n S.sound l.holder s i));
-    }
+unfolding fresh_answer
+limits-ground n marks = ground-by n marks (fresh_answer limits n marks) (λ e. grind (arith, e))

@@ -7,5 +7,6 @@ pub mod BoardLaws
 pub mod SigningLaws
 pub mod ProperLaws
 pub mod LifeLaws
+pub mod CallLaws
 pub mod EstimateLaws
 pub mod ExampleLaws
