@@ -1,8 +1,8 @@
 -- Laws of the accepted statements of a round: the opening's value, and how many ballots bear a value. Assumes nothing.
 use Prim.Native.Nat.{ℕ, zero, suc, ◌≤◌}
 use native.Mathlib.Omega.{arith}
-use mathlib.Core.Path.{◌≡◌, sym, ◌∙◌}
-use mathlib.Core.Bool.{Bool, true, ◌&&◌}
+use mathlib.Core.Path.{◌≡◌, refl, sym, ◌∙◌}
+use mathlib.Core.Bool.{Bool, true, false, ◌&&◌}
 use mathlib.Core.Logic.{◌⊎◌, inr}
 use lib.Dec.{eqb, leb}
 use Rattle.std.specs.Prelude.{if◌then◌else◌}
@@ -14,7 +14,7 @@ use Rattle.delivery.specs.Counting.{count_in}
 use Rattle.delivery.specs.Limits.{Limits}
 use Rattle.delivery.specs.Bus.{quorum}
 use Rattle.delivery.specs.Delivered.{Store}
-use Rattle.delivery.specs.Acceptance.{opening_entry, backs, accepts_opening, accepts_ballot}
+use Rattle.delivery.specs.Acceptance.{opening_entry, ballot_entry, backs, accepts_opening, accepts_ballot, accepts_some}
 use Rattle.delivery.proofs.CountLaws.{find, count-some, count-cong}
 use Rattle.delivery.proofs.OneRoundLaws.{backs-value}
 use Rattle.delivery.proofs.AllRoundsLaws.{opening-reads, ballot-reads, ballot-sent, accepted-reads, reads-accepted, ballot-needs}
@@ -78,8 +78,19 @@ module _ (L : Limits) (n : ℕ) (h : Store) (r : ℕ) where
   borne-opened : (s : ℕ) → (borne_by L n h r s ≡ 0)
       ⊎ ((borne_by L n h r s ≡ opened) × (accepts_ballot L n h r s opened ≡ true))
   unfolding borne_by
-  borne-opened s =
-      grind (arith, nat_tests, accepted-reads, ballot-reads, entry_value, ballot-needs, reads-opened, value-within)
+  borne-opened s = go (accepts_some L n h r s) refl
+    where
+      go : (t : Bool) → accepts_some L n h r s ≡ t → (borne_by L n h r s ≡ 0)
+          ⊎ ((borne_by L n h r s ≡ opened) × (accepts_ballot L n h r s opened ≡ true))
+      go false e = grind arith
+      go true e =
+          let x = accepted-reads L n h r s e in
+          let b = ballot-reads L n h r s x.0 x.1 in
+          let e' = entry_value (ballot_entry L h r s) in
+          let u = value-within (ballot_entry L h r s) in
+          let o = λ (z : x.0 ≡ 0 → ⊥). opening-reads L n h r x.0 (ballot-needs L n h r s x.0 z x.1) in
+          let y = λ (z : x.0 ≡ 0 → ⊥) (l : opening_entry L n h r ≤ entry_of values). reads-opened x.0 l (ballot-needs L n h r s x.0 z x.1) in
+          grind arith
 
   opened-borne : (s : ℕ) → accepts_ballot L n h r s opened ≡ true → borne_by L n h r s ≡ opened
   unfolding borne_by
