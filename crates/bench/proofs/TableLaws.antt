@@ -43,7 +43,7 @@ rows-pass ((true, a) ∷ xs) ys u h = grind (arith, h)
 rows-pass ((false, a) ∷ xs) ys u h = rows-pass xs ys u h
 
 -- a board whose turn no row before row 22 refuses is voting
-state-voting : (L : Limits) (c : Bench) (e : Event) (u : Unit {0}) → first_of (state_rows L c e) ≡ Ok u
+pub state-voting : (L : Limits) (c : Bench) (e : Event) (u : Unit {0}) → first_of (state_rows L c e) ≡ Ok u
     → e.kind ≡ turning
     → (board_at L c e.a).status ≡ Voting
 unfolding first_of start_row end_row ◌and◌ ◌or◌ neg

@@ -43,6 +43,10 @@ module _ (limit k : ℕ) where
   unfolding is_within
   within-zero e = grind (arith, nat_tests)
 
+  pub within-above : limit < k → is_within limit k ≡ false
+  unfolding is_within
+  within-above h = grind (arith, nat_tests)
+
 module _ {A : Type 0} (xs : List A) where
   -- element k stands at index k - 1
   pub nth-index : (k : ℕ) (d : A) → 1 ≤ k → nth xs k d ≡ get_or xs (k - 1) d
