@@ -56,30 +56,33 @@ must-vote c k = grind (arith, turn-idle, turn-ended, ended-spent, ended-decided)
 row_16-is : turn_number Ended ≡ 16
 row_16-is = ended-is ∙ ap (λ (m : ℕ). m + 1) not_started-is
 
--- what is known of a row's tests where it applies, and where it does not
-ruleset asked = (arith, nat_tests, within_in, unstarted-idle, idle-unstarted, ended-some, decided-some, decided-has, must-vote, wait-neither)
+-- what is known of a row's tests
+ruleset fields = (arith, nat_tests, within_in, within_low, within-high)
 
-ruleset told = (arith, nat_tests, within_low, within-high, unstarted-idle, idle-unstarted, ended-spent, ended-decided, decided-decided, has-decided, wait-waits, wait-refuses)
+ruleset statuses = (unstarted-idle, idle-unstarted, ended-some, ended-spent, ended-decided, decided-some, decided-decided)
+
+ruleset tests = (fields, statuses, has-decided, decided-has, must-vote, wait-waits, wait-refuses, wait-neither)
 
 -- the rows of the table are such rows, from 10 on
 module _ (c : Bench) (e : Event) where
   says : Says (Applies c e) 10 (table_of limits c e)
-  unfolding refusal_number kind_row boards_row fields_row wrong_other wrong_id wrong_value mark_row pair_row start_row end_row
-      signed_row last_row delivered_row announcer_row ballots_row turn_row refuses uses_other uses_id uses_value ◌and◌ ◌or◌ neg
+  unfolding refusal_number kind_row boards_row fields_row wrong_other wrong_id wrong_value mark_row pair_row start_row
+      end_row signed_row last_row delivered_row announcer_row ballots_row turn_row refuses uses_other uses_id uses_value
+      ◌and◌ ◌or◌ neg
   says =
-      (refl, grind (asked, no-kind), grind told)
-      next (refl, grind (asked, no-board, no-other), grind told)
-      next (refl, grind (asked, unused-other, unused-id, unused-value, no-identifier, no-round, blank), grind told)
-      next (refl, grind (asked, sound-asked, faulty-told), grind told)
-      next (refl, grind (asked, of-itself), grind told)
-      next (not_started-is, grind (asked, started, not-started), grind told)
-      next (row_16-is, grind (asked, ended, is-decided), grind told)
-      next (refl, grind (asked, not-signed), grind told)
-      next (refl, grind (asked, not-above), grind told)
-      next (refl, grind (asked, delivered), grind told)
-      next (refl, grind (asked, not-decided), grind told)
-      next (refl, grind (asked, few-ballots), grind told)
-      next (waiting-is, grind (asked, waits, unsigned), grind told)
+      (refl, grind (tests, no-kind), grind tests)
+      next (refl, grind (tests, no-board, no-other), grind tests)
+      next (refl, grind (tests, unused-other, unused-id, unused-value, no-identifier, no-round, blank), grind tests)
+      next (refl, grind (tests, sound-asked, faulty-told), grind tests)
+      next (refl, grind (tests, of-itself), grind tests)
+      next (not_started-is, grind (tests, started, not-started), grind tests)
+      next (row_16-is, grind (tests, ended, is-decided), grind tests)
+      next (refl, grind (tests, not-signed), grind tests)
+      next (refl, grind (tests, not-above), grind tests)
+      next (refl, grind (tests, delivered), grind tests)
+      next (refl, grind (tests, not-decided), grind tests)
+      next (refl, grind (tests, few-ballots), grind tests)
+      next (waiting-is, grind (tests, waits, unsigned), grind tests)
       next no-row (grind arith)
 
   least : (k : ℕ) → Applies c e k → (10 ≤ k) × (k ≤ 22)

@@ -18,7 +18,8 @@ unfolding fresh_bench
 agreed n marks es =
     let S = setup limits n marks in
     let ground = limits-ground n marks in
-    sure-agrees limits n marks ground _ _ (sure-after limits S ground es [] (fresh_bench limits n marks) (sure-fresh limits S))
+    let sure = sure-after limits S ground es [] (fresh_bench limits n marks) (sure-fresh limits S) in
+    sure-agrees limits n marks ground _ _ sure
 
 pub agreeing : Agreeing
 agreeing = record { agrees = agreed }

@@ -87,11 +87,12 @@ module _ (n : ℕ) (marks : List ℕ) where
   unfolding number fresh_of fresh_bench setup_by fresh_number setup_number
   alone-is f = grind (arith, course)
 
-  sound-where : (k : ℕ) → (in_set (set_of n (is_marked_sound marks)) k ≡ true) ↔ ((1 ≤ k) × (k ≤ n) × (mark marks k ≡ 0))
+  sound-where : (k : ℕ)
+      → (in_set (set_of n (is_marked_sound marks)) k ≡ true) ↔ ((1 ≤ k) × (k ≤ n) × (mark marks k ≡ 0))
   unfolding is_marked_sound
   sound-where k = (
-    grind (arith, nat_tests, in_within n (is_marked_sound marks) k, within_low, within-high, in-set_of-passes n (is_marked_sound marks) k),
-    grind (arith, nat_tests, in-set_of-within n (is_marked_sound marks) k),
+    grind (arith, nat_tests, in_within, within_low, within-high, in-set_of-passes),
+    grind (arith, nat_tests, in-set_of-within),
   )
 
   asked : number ≡ 0
@@ -111,7 +112,8 @@ sole-set : with_board 0 1 ≡ set_of 1 (is_marked_sound (0 ∷ []))
 unfolding is_marked_sound
 sole-set = alone-set ∙ set-cong 1 all (is_marked_sound (0 ∷ [])) (λ k l u. sym (eq-eqb _ _ (mark-sole k l u)))
 
-alone : (n : ℕ) (marks : List ℕ) → (number n marks ≡ 0 → ⊥) → (fresh_of limits n marks).bench ≡ (fresh_of limits 1 (0 ∷ [])).bench
+alone : (n : ℕ) (marks : List ℕ) → (number n marks ≡ 0 → ⊥)
+    → (fresh_of limits n marks).bench ≡ (fresh_of limits 1 (0 ∷ [])).bench
 alone n marks f = alone-is n marks f ∙ ap (bench_of limits 1) sole-set ∙ sym (asked-is 1 (0 ∷ []) sole)
 
 -- marks that are the same up to the n-th

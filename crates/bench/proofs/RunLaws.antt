@@ -21,7 +21,8 @@ use Rattle.bench.specs.declared.event.Event.{Event}
 
 -- an event is its six bytes, and no byte after them matters
 pub event-bytes : (k a b i high low : ℕ) (bs : List ℕ)
-    → event_from (k ∷ a ∷ b ∷ i ∷ high ∷ low ∷ bs) ≡ record { kind = k; a = a; b = b; id = i; value = high_first high low }
+    → event_from (k ∷ a ∷ b ∷ i ∷ high ∷ low ∷ bs)
+    ≡ record { kind = k; a = a; b = b; id = i; value = high_first high low }
 unfolding event_from
 event-bytes k a b i high low bs = refl
 
@@ -34,7 +35,8 @@ pub steps-nil : (L : Limits) (c : Bench) → steps L c [] ≡ []
 unfolding steps
 steps-nil L c = refl
 
-pub steps-cons : (L : Limits) (c : Bench) (e : Event) (es : List Event) → steps L c (e ∷ es) ≡ step_of L c e ∷ steps L (step_of L c e).bench es
+pub steps-cons : (L : Limits) (c : Bench) (e : Event) (es : List Event)
+    → steps L c (e ∷ es) ≡ step_of L c e ∷ steps L (step_of L c e).bench es
 unfolding steps
 steps-cons L c e es = refl
 
@@ -43,7 +45,8 @@ pub after-nil : (L : Limits) (c : Bench) → after L c [] ≡ c
 unfolding after steps last_of
 after-nil L c = refl
 
-pub after-cons : (L : Limits) (c : Bench) (e : Event) (es : List Event) → after L c (e ∷ es) ≡ after L (step_of L c e).bench es
+pub after-cons : (L : Limits) (c : Bench) (e : Event) (es : List Event)
+    → after L c (e ∷ es) ≡ after L (step_of L c e).bench es
 unfolding after steps last_of
 after-cons L c e es = refl
 
@@ -71,7 +74,9 @@ length-answers L c (e ∷ es) = ap suc (length-answers L (step_of L c e).bench e
 -- of the events that are left after k of n, the first is at the head of the bytes that are left
 pub events-next : (n k at : ℕ) (bs : List ℕ) → k < n
     → events_in (n - k) (drop at bs) ≡ event_from (drop at bs) ∷ events_in (n - (k + 1)) (drop (at + event_bytes) bs)
-events-next n k at bs h = let e : n - k ≡ suc (n - (k + 1)) = omega arith in grind (arith, e, events-more (n - (k + 1)) (drop at bs), drop-drop event_bytes at bs)
+events-next n k at bs h =
+    let e : n - k ≡ suc (n - (k + 1)) = omega arith in
+    grind (arith, e, events-more (n - (k + 1)) (drop at bs), drop-drop event_bytes at bs)
 
 -- writing one after another from the start is writing all in place of the first
 pub sets-written : (xs ys : List ℕ) → length xs ≤ length ys → sets ys 0 xs ≡ written xs ys
@@ -92,13 +97,15 @@ unfolding ending_of played_by
 played-fits bs room = grind (arith, nat_tests, length-events)
 
 -- whole events for which there is room are played
-events-played : (k room : ℕ) (bs : List ℕ) → length bs ≡ event_bytes * k → k ≤ room → events_played bs room ≡ events_in k bs
+events-played : (k room : ℕ) (bs : List ℕ) → length bs ≡ event_bytes * k → k ≤ room
+    → events_played bs room ≡ events_in k bs
 unfolding ending_of played_by
 events-played k room bs e h = let count : length bs / event_bytes ≡ k = omega arith in grind (arith, nat_tests, count)
 
 -- so playing them gives the bench after them, and their answers are written
 module _ (L : Limits) (n : ℕ) (marks : List ℕ) (k : ℕ) (bs : List ℕ) (e : length bs ≡ event_bytes * k) where
-  pub played-bench : (room : ℕ) → k ≤ room → (played_of L n marks bs room).bench ≡ after L (fresh_bench L n marks) (events_in k bs)
+  pub played-bench : (room : ℕ) → k ≤ room
+      → (played_of L n marks bs room).bench ≡ after L (fresh_bench L n marks) (events_in k bs)
   unfolding played_of
   played-bench room h = rw (events-played k room bs e h)
 

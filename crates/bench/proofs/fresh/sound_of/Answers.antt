@@ -9,5 +9,4 @@ use Rattle.bench.proofs.fresh.sound_of.Goals as goal
 pub returns-then-not-is_mark : goal.returns-then-not-is_mark
 returns-then-not-is_mark c =
     let a = c.args in
-    let i = c.loop-i.i in
-    grind (arith, marks-fail a.n i a.marks.now, nth_after a.marks.now i 0, get_or-take a.n a.marks.now i 0, length-take a.n a.marks.now, c.is_mark.ensures, c.if-not-is_mark.true)
+    grind (arith, marks-fail a.n c.loop-i.i a.marks.now, nth_after, get_or-take, length-take)

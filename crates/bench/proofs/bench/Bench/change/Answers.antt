@@ -17,6 +17,6 @@ returns-then-is_board g c =
     let s = c.args.self.now in
     let k = c.args.k in
     let size : length s.boards ≡ limits.boards = search rules in
-    let at : get_or s.boards (k - 1) c.index-self-k.result ≡ board_at limits s k = grind (arith, size, c.is_board.ensures, c.if-is_board.true, nth-any, within_low, within-high) in
+    let at : get_or s.boards (k - 1) c.index-self-k.result ≡ board_at limits s k = grind (arith, nth-any, within_low, within-high) in
     let made = told _ (record { shown = _; shows = at; left = _; met = c.change.ensures; leaves = refl }) in
-    grind (arith, c.is_board.ensures, c.if-is_board.true, made, set_nth-index, within_low)
+    grind (arith, made, set_nth-index, within_low)

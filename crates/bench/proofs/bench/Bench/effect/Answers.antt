@@ -4,6 +4,7 @@ use borrow.Author.Rules.{rules}
 use Rattle.delivery.specs.Limits.{limits}
 use Rattle.vote.specs.Boards.{propose, suspect, trust}
 use Rattle.vote.specs.Announcements.{announce}
+use Rattle.vote.specs.declared.board.Board.{Board}
 use Rattle.bench.specs.Events.{kind_number}
 use Rattle.bench.specs.Effects.{effect_of}
 use Rattle.bench.proofs.bench.Bench.effect.Goals as goal
@@ -11,19 +12,20 @@ use Rattle.bench.proofs.bench.Bench.effect.Goals as goal
 pub returns-in-Propose-clause-ok : goal.returns-in-Propose-clause-ok
 unfolding kind_number effect_of
 returns-in-Propose-clause-ok c =
-    grind (arith, c.change.ensures (λ b. propose b c.e.inside.value) (λ b told. search rules), c.in-Propose.is, c.e.view_is)
+    grind (arith, c.change.ensures (λ b. propose b c.e.inside.value) (λ b told. search rules))
 
 pub returns-in-Announce-clause-ok : goal.returns-in-Announce-clause-ok
 unfolding kind_number effect_of
 returns-in-Announce-clause-ok c =
-    grind (arith, c.change-in-Announce.ensures (λ b. announce limits c.args.self.now.n b c.e.inside.id c.e.inside.value) (λ b told. search rules), c.in-Announce.is, c.e.view_is)
+    let f = λ (b : Board). announce limits c.args.self.now.n b c.e.inside.id c.e.inside.value in
+    grind (arith, c.change-in-Announce.ensures f (λ b told. search rules))
 
 pub returns-in-Suspect-clause-ok : goal.returns-in-Suspect-clause-ok
 unfolding kind_number effect_of
 returns-in-Suspect-clause-ok c =
-    grind (arith, c.change-in-Suspect.ensures (λ b. suspect b c.e.inside.b) (λ b told. search rules), c.in-Suspect.is, c.e.view_is)
+    grind (arith, c.change-in-Suspect.ensures (λ b. suspect b c.e.inside.b) (λ b told. search rules))
 
 pub returns-in-Trust-clause-ok : goal.returns-in-Trust-clause-ok
 unfolding kind_number effect_of
 returns-in-Trust-clause-ok c =
-    grind (arith, c.change-in-Trust.ensures (λ b. trust b c.e.inside.b) (λ b told. search rules), c.in-Trust.is, c.e.view_is)
+    grind (arith, c.change-in-Trust.ensures (λ b. trust b c.e.inside.b) (λ b told. search rules))

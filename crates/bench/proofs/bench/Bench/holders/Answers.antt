@@ -22,5 +22,5 @@ loop-i-preserved c =
     let at = holds-at limits a.self.now a.speaker a.id.0 i.i c.board-item.result (omega arith) in
     record {
       within = omega arith;
-      passed = grind (arith, nat_tests, at, c.entry.ensures, i.invariant.passed, set-take i.i i.have, set-leave i.i i.have);
+      passed = grind (arith, nat_tests, set-take i.i i.have, set-leave i.i i.have);
     }

@@ -15,12 +15,17 @@ use Rattle.bench.proofs.bench.Bench.play.Goals as goal
 
 -- the history that stands in the buffer is that of the events that were played, so agreement holds of it
 agrees-played : (n : ℕ) (marks bs room : List ℕ)
-    → Agreement limits n marks (played_history bs (answers_after limits n marks bs room)) (bench_after limits n marks (events_played bs (length room)))
+    → Agreement
+    limits
+    n
+    marks
+    (played_history bs (answers_after limits n marks bs room))
+    (bench_after limits n marks (events_played bs (length room)))
 unfolding answers_after
 agrees-played n marks bs room =
     let c = fresh_bench limits n marks in
     let es = events_played bs (length room) in
-    let fits : length (answers_to limits c es) ≤ length room = omega (arith, length-answers limits c es, played-fits bs (length room)) in
+    let fits : length (answers_to limits c es) ≤ length room = grind (arith, length-answers, played-fits) in
     rw (length-written (answers_to limits c es) room fits, history-written limits c es room) (agreed n marks es)
 
 pub returns-clause-agreement : goal.returns-clause-agreement

@@ -27,14 +27,14 @@ loop-k-preserved c =
     let size : length six ≡ event_bytes = s.0.1.1 ∙ l.invariant.size in
     let more : k < n = omega (arith, length-drop at bs, ap length cut, length-append six ys, size) in
     let moved : event_bytes * (k + 1) ≡ at + event_bytes = omega arith in
-    let there : ys ≡ drop (at + event_bytes) bs = grind (arith, cut, size, drop-append_seam six ys, drop-drop event_bytes at bs) in
-    let event : c.read-event.result ≡ event_from (drop at bs) = grind (arith, c.read-event.ensures, cut, size, event-append six ys) in
+    let there : ys ≡ drop (at + event_bytes) bs = grind (arith, drop-append_seam six ys, drop-drop event_bytes at bs) in
+    let event : c.read-event.result ≡ event_from (drop at bs) = grind (arith, event-append six ys) in
     let next = events-next n k at bs more in
     record {
-      room = length-set l.answers c.in-Some.k c.number_of.result ∙ l.invariant.room;
-      size = s.0.0 ∙ l.invariant.size;
-      rest = grind (arith, there, s.2);
-      left = grind (arith, there, length-drop, s.2);
-      bench = grind (arith, next, s.2, moved, event, c.step.ensures, l.invariant.bench);
-      answers = grind (arith, next, s.2, moved, event, c.step.ensures, c.number_of.ensures, s.1, add-one, l.invariant.answers);
+      room = grind (arith, length-set);
+      size = grind arith;
+      rest = grind arith;
+      left = grind (arith, length-drop);
+      bench = grind arith;
+      answers = grind (arith, add-one);
     }
