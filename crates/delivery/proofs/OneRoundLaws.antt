@@ -37,12 +37,11 @@ pub backs-value : (L : Limits) (h : Store) (r w s : ℕ) → backs L h r (entry_
 unfolding backs says
 backs-value L h r w s = refl
 
--- w is allowed next, by the entry x of the opening that counts, b blank ballots and c for its value; m: it is allowed in this round
-unfoldable pub by-counts : ℕ → ℕ → ℕ → ℕ → ℕ → Bool → Bool
-by-counts n x b c w m =
-    neg (eqb w 0)
-    and ((eqb x (entry_of w) and leb (quorum n) (b + c) and leb (overlap n) c)
-    or (m and leb (quorum n) (b + min c (overlap n - 1))))
+-- w is allowed next, where the entry of the opening that counts is x, b ballots are blank and c bear its value; m says whether w
+-- is allowed in this round
+unfoldable pub by-counts : ℕ → ℕ → ℕ → ℕ → ℕ → ℕ → Bool → Bool
+by-counts q e x b c w m =
+    neg (eqb w 0) and ((eqb x (entry_of w) and leb q (b + c) and leb e c) or (m and leb q (b + min c (e - 1))))
 
 module _ (L : Limits) (n : ℕ) (h : Store) (r : ℕ) where
   -- of some speakers, a ballot is accepted from each, whatever it bears
@@ -143,6 +142,10 @@ module _ (L : Limits) (n : ℕ) (h : Store) (r : ℕ) where
   abbrev pub backing : ℕ
   backing = count_in n (backs L h r entry)
 
+  -- w is allowed next, by these
+  abbrev pub counted : ℕ → Bool
+  counted w = by-counts (quorum n) (overlap n) entry blank backing w (allowed L n h r w)
+
   -- and of some speakers' ballots
   abbrev backing-among : (ℕ → Bool) → ℕ
   backing-among p = count_in n (λ (s : ℕ). p s and backs L h r entry s)
@@ -189,8 +192,7 @@ module _ (L : Limits) (n : ℕ) (h : Store) (r : ℕ) where
           let o : accepts_opening L n h r (entry - 1) ≡ true = grind (arith, nat_tests, s.3, opened-entry (entry - 1)) in
           omega (arith, f (entry - 1) v, value-among p (entry - 1) v o)
 
-  pub leaves-counts : (w : ℕ) (p : ℕ → Bool) → 1 ≤ n → (w ≡ 0 → ⊥) → quorum n ≤ count_in n p → Leaves w p
-      → by-counts n entry blank backing w (allowed L n h r w) ≡ true
+  pub leaves-counts : (w : ℕ) (p : ℕ → Bool) → 1 ≤ n → (w ≡ 0 → ⊥) → quorum n ≤ count_in n p → Leaves w p → counted w ≡ true
   unfolding by-counts accepts_ballot accepts_opening counts ◌and◌ ◌or◌ neg
   leaves-counts w p some z q l =
       ⊎_elim
@@ -245,7 +247,7 @@ module _ (L : Limits) (n : ℕ) (h : Store) (r : ℕ) where
             (λ t. inr (λ v y. omega (arith, t.1, few v y), t.0))
             t
 
-    pub counts-later : 1 ≤ n → by-counts n entry blank backing w (allowed L n h r w) ≡ true → allowed L n h (r + 1) w ≡ true
+    pub counts-later : 1 ≤ n → counted w ≡ true → allowed L n h (r + 1) w ≡ true
     unfolding by-counts ◌and◌ ◌or◌ neg
     counts-later some t =
         let z : w ≡ 0 → ⊥ = λ z. grind arith in
@@ -259,7 +261,7 @@ module _ (L : Limits) (n : ℕ) (h : Store) (r : ℕ) where
         s
 
     -- so what is allowed next goes by them
-    pub later-counts : 1 ≤ n → allowed L n h (r + 1) w ≡ by-counts n entry blank backing w (allowed L n h r w)
+    pub later-counts : 1 ≤ n → allowed L n h (r + 1) w ≡ counted w
     later-counts some =
         same_test
         _
