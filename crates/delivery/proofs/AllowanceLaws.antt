@@ -1,5 +1,5 @@
--- What is allowed from round to round, by counts of ballots: what the program carries over the rounds, an allowance, stands for
--- it. Assumes nothing.
+-- What is allowed from round to round, by counts of ballots: what the program carries over the rounds, an allowance, stands
+-- for it. Assumes nothing.
 use Prim.Native.Nat.{ℕ, zero, suc, ◌+◌, ◌-◌, ◌≤◌, ◌<◌, min}
 use native.Mathlib.Omega.{arith}
 use native.Mathlib.Numerals.{add-one}
@@ -25,7 +25,8 @@ use Rattle.delivery.proofs.AllRoundsLaws.{allowed-blank, ballot-needs}
 use Rattle.delivery.proofs.OneRoundLaws.{entry, blank, backing, opened-entry, some-either, value-among, backing-few, by-counts, counted, later-counts}
 
 -- where q boards or more have an accepted ballot
-module _ (L : Limits) (n : ℕ) (h : Store) (r : ℕ) (some : 1 ≤ n) (low : 1 ≤ r) (enough : quorum n ≤ count_in n (accepts_some L n h r)) where
+module _ (L : Limits) (n : ℕ) (h : Store) (r : ℕ) (some : 1 ≤ n) (low : 1 ≤ r)
+    (enough : quorum n ≤ count_in n (accepts_some L n h r)) where
   next : (w : ℕ) → allowed L n h (suc r) w ≡ counted L n h r w
   next w = rw (← add-one r) (later-counts L n h r w low some)
 
@@ -40,7 +41,8 @@ module _ (L : Limits) (n : ℕ) (h : Store) (r : ℕ) (some : 1 ≤ n) (low : 1 
       )
 
   -- a value that e or more of them bear is allowed in the next round
-  pub borne-next : (w : ℕ) → (w ≡ 0 → ⊥) → overlap n ≤ count_in n (λ (s : ℕ). accepts_ballot L n h r s w) → allowed L n h (suc r) w ≡ true
+  pub borne-next : (w : ℕ) → (w ≡ 0 → ⊥) → overlap n ≤ count_in n (λ (s : ℕ). accepts_ballot L n h r s w)
+      → allowed L n h (suc r) w ≡ true
   unfolding by-counts ◌and◌ ◌or◌ neg
   borne-next w z l =
       let s = find n (λ (s : ℕ). accepts_ballot L n h r s w) (omega (arith, l, overlap-pos n some)) in
@@ -56,8 +58,10 @@ module _ (L : Limits) (n : ℕ) (h : Store) (r : ℕ) (some : 1 ≤ n) (low : 1 
       let k = backing-few L n h r (λ (s : ℕ). true) (overlap n) (overlap-pos n some) f in
       rw next (grind (arith, nat_tests, voiced, k, allowed-blank L n h r))
 
--- what a round leaves of a by its counts, where x is the entry of the opening that was sent and e that of the one that counts
-settled : (a : Allowance) (q k x e b c w : ℕ) → 1 ≤ k → (e ≡ x) ⊎ ((e ≡ 0) × (c ≡ 0)) → (e ≡ entry_of w → lets a w ≡ true)
+-- what a round leaves of a by its counts, where x is the entry of the opening that was sent and e that of the one that
+-- counts
+settled : (a : Allowance) (q k x e b c w : ℕ) → 1 ≤ k → (e ≡ x) ⊎ ((e ≡ 0) × (c ≡ 0))
+    → (e ≡ entry_of w → lets a w ≡ true)
     → lets (if leb q (b + min c (k - 1)) then a else (if leb q (b + c) then Only x else Nothing)) w
     ≡ by-counts q k e b c w (lets a w)
 unfolding by-counts lets ◌and◌ ◌or◌ neg
@@ -89,12 +93,15 @@ module _ (L : Limits) (n : ℕ) (h : Store) where
   unbacked r zero = refl
   unbacked r (suc n) = unbacked r n
 
-  -- one round of the pass: by the allowance a, the opening's entry, b blank ballots and c for its value if that is allowed, a'
-  -- is left
+  -- one round of the pass: by the allowance a, the opening's entry, b blank ballots and c for its value if that is allowed,
+  -- a' is left
   pub pass-turn : (a a' : Allowance) (r b c : ℕ) → lets a ≡ allowed L n h r → (n ≡ 0 → ⊥) → 1 ≤ r
       → b ≡ count_in n (backs L h r (entry_of 0))
       → c ≡ (if says (opening_entry L n h r) (lets a) then count_in n (backs L h r (opening_entry L n h r)) else 0)
-      → a' ≡ (if leb (quorum n) (b + min c (overlap n - 1)) then a else (if leb (quorum n) (b + c) then Only (opening_entry L n h r) else Nothing))
+      → a'
+      ≡ (if leb (quorum n) (b + min c (overlap n - 1))
+      then a
+      else (if leb (quorum n) (b + c) then Only (opening_entry L n h r) else Nothing))
       → lets a' ≡ allowed L n h (r + 1)
   unfolding entry says backs
   pass-turn a a' r b c f some low blanks backers left =
