@@ -25,12 +25,15 @@ module _ (L : Limits) (n : ℕ) (h : Store) (some : 1 ≤ n) where
     where
       step : (m : ℕ) → r ≤ m → (allowed L n h m w ≡ true → allowed L n h r w ≡ true)
           → allowed L n h (suc m) w ≡ true → allowed L n h r w ≡ true
-      step m l' f a = f (grind (arith, nat_tests, later-counts L n h m w (omega (arith, low)) some, opened-entry L n h m w))
+      step m l' f a =
+          f (grind (arith, nat_tests, later-counts L n h m w (omega (arith, low)) some, opened-entry L n h m w))
 
   -- what was won was opened, and so allowed, in its round
   pub won-opened : (r v : ℕ) → Won L n h r v → Opens L n h r v
   won-opened r v o =
-      let s = find n (λ (s : ℕ). accepts_ballot L n h r s v) (omega (arith, o.quorum-bears, overlap-pos n some, overlap-le n)) in
+      let m : 1 ≤ count_in n (λ (s : ℕ). accepts_ballot L n h r s v) =
+      omega (arith, o.quorum-bears, overlap-pos n some, overlap-le n) in
+      let s = find n (λ (s : ℕ). accepts_ballot L n h r s v) m in
       opening-reads L n h r v (ballot-needs L n h r s.0 v o.value s.3)
 
   -- and is the only value allowed in any later round
@@ -43,7 +46,8 @@ module _ (L : Limits) (n : ℕ) (h : Store) (some : 1 ≤ n) where
       let m : count_in n (λ (s : ℕ). accepts_ballot L n h (suc r) s v) ≡ backing L n h (suc r) =
       value-among L n h (suc r) (λ (s : ℕ). true) v o.value opened in
       let e : entry L n h (suc r) ≡ suc v = grind (arith, nat_tests, opened, opened-entry L n h (suc r) v) in
-      grind (arith, nat_tests, o.quorum-bears, m, blank-backing L n h (suc r), later-counts L n h (suc r) w (omega arith) some)
+      let k = later-counts L n h (suc r) w (omega arith) some in
+      grind (arith, nat_tests, o.quorum-bears, m, blank-backing L n h (suc r), k)
 
   -- the single-store law: what q or more accepted ballots bear, in whatever two rounds, is one value
   pub won-one : (r v r' w : ℕ) → Won L n h r v → Won L n h r' w → v ≡ w

@@ -67,7 +67,8 @@ module _ (L : Limits) (n : ℕ) (h : Store) (r : ℕ) where
   pub ballot-needs : (s w : ℕ) → (w ≡ 0 → ⊥) → accepts_ballot L n h r s w ≡ true → accepts_opening L n h r w ≡ true
   ballot-needs s w z b = grind (arith, ballot-reads s w b)
 
-  pub ballot-sent : (s w : ℕ) → (w ≡ 0) ⊎ (accepts_opening L n h r w ≡ true) → accepts_ballot L n h r s w ≡ bears L h r w s
+  pub ballot-sent : (s w : ℕ) → (w ≡ 0) ⊎ (accepts_opening L n h r w ≡ true)
+      → accepts_ballot L n h r s w ≡ bears L h r w s
   unfolding accepts_ballot accepts_opening counts bears ◌and◌ ◌or◌
   ballot-sent s w o = grind (arith, nat_tests)
 

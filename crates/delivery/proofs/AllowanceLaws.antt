@@ -1,5 +1,5 @@
--- What is allowed from round to round, by counts of ballots: what the program carries over the rounds, an allowance, stands for
--- it. Assumes nothing.
+-- What is allowed from round to round, by counts of ballots: what the program carries over the rounds, an allowance, stands
+-- for it. Assumes nothing.
 use Prim.Native.Nat.{ℕ, zero, suc, ◌+◌, ◌-◌, ◌≤◌, ◌<◌, min}
 use native.Mathlib.Omega.{arith}
 use native.Mathlib.Numerals.{add-one}
@@ -22,16 +22,17 @@ use Rattle.delivery.specs.declared.allowance.Allowance.TheVariants.{Nothing, Eve
 use Rattle.delivery.proofs.TestLaws.{and-yes-left, and-no-left}
 use Rattle.delivery.proofs.CountLaws.{overlap-pos, count-cong, count-or, find}
 use Rattle.delivery.proofs.AllRoundsLaws.{allowed-blank, ballot-needs}
-use Rattle.delivery.proofs.OneRoundLaws.{entry, blank, backing, opened-entry, some-either, value-among, backing-few, by-counts, later-counts}
+use Rattle.delivery.proofs.OneRoundLaws.{entry, blank, backing, opened-entry, some-either, value-among, backing-few, by-counts, counted, later-counts}
 
 -- where q boards or more have an accepted ballot
-module _ (L : Limits) (n : ℕ) (h : Store) (r : ℕ) (some : 1 ≤ n) (low : 1 ≤ r) (enough : quorum n ≤ count_in n (accepts_some L n h r)) where
-  next : (w : ℕ) → allowed L n h (suc r) w ≡ by-counts n (entry L n h r) (blank L n h r) (backing L n h r) w (allowed L n h r w)
+module _ (L : Limits) (n : ℕ) (h : Store) (r : ℕ) (some : 1 ≤ n) (low : 1 ≤ r)
+    (enough : quorum n ≤ count_in n (accepts_some L n h r)) where
+  next : (w : ℕ) → allowed L n h (suc r) w ≡ counted L n h r w
   next w = rw (← add-one r) (later-counts L n h r w low some)
 
   -- so many are blank or bear the opening's value
-  counted : quorum n ≤ blank L n h r + backing L n h r
-  counted =
+  voiced : quorum n ≤ blank L n h r + backing L n h r
+  voiced =
       omega (
         arith,
         enough,
@@ -40,13 +41,14 @@ module _ (L : Limits) (n : ℕ) (h : Store) (r : ℕ) (some : 1 ≤ n) (low : 1 
       )
 
   -- a value that e or more of them bear is allowed in the next round
-  pub borne-next : (w : ℕ) → (w ≡ 0 → ⊥) → overlap n ≤ count_in n (λ (s : ℕ). accepts_ballot L n h r s w) → allowed L n h (suc r) w ≡ true
+  pub borne-next : (w : ℕ) → (w ≡ 0 → ⊥) → overlap n ≤ count_in n (λ (s : ℕ). accepts_ballot L n h r s w)
+      → allowed L n h (suc r) w ≡ true
   unfolding by-counts ◌and◌ ◌or◌ neg
   borne-next w z l =
       let s = find n (λ (s : ℕ). accepts_ballot L n h r s w) (omega (arith, l, overlap-pos n some)) in
       let o = ballot-needs L n h r s.0 w z s.3 in
       let k = value-among L n h r (λ (s : ℕ). true) w z o in
-      rw next (grind (arith, nat_tests, counted, k, o, opened-entry L n h r w))
+      rw next (grind (arith, nat_tests, voiced, k, o, opened-entry L n h r w))
 
   -- and where no value has so many, one that is allowed in this round
   pub kept_next : (w : ℕ) → ((v : ℕ) → (v ≡ 0 → ⊥) → count_in n (λ (s : ℕ). accepts_ballot L n h r s v) < overlap n)
@@ -54,14 +56,16 @@ module _ (L : Limits) (n : ℕ) (h : Store) (r : ℕ) (some : 1 ≤ n) (low : 1 
   unfolding by-counts ◌and◌ ◌or◌ neg
   kept_next w f a =
       let k = backing-few L n h r (λ (s : ℕ). true) (overlap n) (overlap-pos n some) f in
-      rw next (grind (arith, nat_tests, counted, k, allowed-blank L n h r))
+      rw next (grind (arith, nat_tests, voiced, k, allowed-blank L n h r))
 
--- what a round leaves of a by its counts, where x is the entry of the opening that was sent and e that of the one that counts
-settled : (a : Allowance) (n x e b c w : ℕ) → 1 ≤ n → (e ≡ x) ⊎ ((e ≡ 0) × (c ≡ 0)) → (e ≡ entry_of w → lets a w ≡ true)
-    → lets (if leb (quorum n) (b + min c (overlap n - 1)) then a else (if leb (quorum n) (b + c) then Only x else Nothing)) w
-    ≡ by-counts n e b c w (lets a w)
+-- what a round leaves of a by its counts, where x is the entry of the opening that was sent and e that of the one that
+-- counts
+settled : (a : Allowance) (q k x e b c w : ℕ) → 1 ≤ k → (e ≡ x) ⊎ ((e ≡ 0) × (c ≡ 0))
+    → (e ≡ entry_of w → lets a w ≡ true)
+    → lets (if leb q (b + min c (k - 1)) then a else (if leb q (b + c) then Only x else Nothing)) w
+    ≡ by-counts q k e b c w (lets a w)
 unfolding by-counts lets ◌and◌ ◌or◌ neg
-settled a n x e b c w some s p = grind (arith, nat_tests)
+settled a q k x e b c w some s p = grind (arith, nat_tests)
 
 module _ (L : Limits) (n : ℕ) (h : Store) where
   -- in no round nothing is allowed, in the first every value
@@ -89,12 +93,15 @@ module _ (L : Limits) (n : ℕ) (h : Store) where
   unbacked r zero = refl
   unbacked r (suc n) = unbacked r n
 
-  -- one round of the pass: by the allowance a, the opening's entry, b blank ballots and c for its value if that is allowed, a'
-  -- is left
+  -- one round of the pass: by the allowance a, the opening's entry, b blank ballots and c for its value if that is allowed,
+  -- a' is left
   pub pass-turn : (a a' : Allowance) (r b c : ℕ) → lets a ≡ allowed L n h r → (n ≡ 0 → ⊥) → 1 ≤ r
       → b ≡ count_in n (backs L h r (entry_of 0))
       → c ≡ (if says (opening_entry L n h r) (lets a) then count_in n (backs L h r (opening_entry L n h r)) else 0)
-      → a' ≡ (if leb (quorum n) (b + min c (overlap n - 1)) then a else (if leb (quorum n) (b + c) then Only (opening_entry L n h r) else Nothing))
+      → a'
+      ≡ (if leb (quorum n) (b + min c (overlap n - 1))
+      then a
+      else (if leb (quorum n) (b + c) then Only (opening_entry L n h r) else Nothing))
       → lets a' ≡ allowed L n h (r + 1)
   unfolding entry says backs
   pass-turn a a' r b c f some low blanks backers left =
@@ -106,7 +113,7 @@ module _ (L : Limits) (n : ℕ) (h : Store) where
       (λ w.
       let same : lets a w ≡ allowed L n h r w = ap (λ (p : ℕ → Bool). p w) f in
       let passes : entry L n h r ≡ entry_of w → lets a w ≡ true = λ e. grind (arith, e) in
-      let next = settled a n sent (entry L n h r) b c w (omega (arith, some)) counting passes in
+      let next = settled a (quorum n) (overlap n) sent (entry L n h r) b c w (omega (arith, some)) counting passes in
       let later = later-counts L n h r w low (omega (arith, some)) in
       rw left (next ∙ (cc same) ∙ sym later))
 

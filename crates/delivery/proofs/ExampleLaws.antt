@@ -1,4 +1,4 @@
--- The examples of specs/Examples: those that compute, and then those about acceptance, for every value. Assumes nothing.
+-- The examples of specs/Examples: those that compute, and those about acceptance, for every value. Assumes nothing.
 use Prim.Native.Nat.{ℕ, ◌+◌, ◌-◌, min}
 use native.Mathlib.Omega.{arith}
 use mathlib.Core.Path.{◌≡◌, refl, sym, ap, ◌∙◌}
@@ -67,25 +67,26 @@ places = (refl, refl, refl, refl, refl, refl, refl, refl)
 
 pub copies : Copies
 unfolding
-    after_signing after_delivery nothing_owed no_copies receivers receivers_at with_receivers with_receivers_at copies_of with_copies
-    lacks in_set set_of nth set_nth ◌and◌ ◌or◌ neg
+    after_signing after_delivery nothing_owed no_copies receivers receivers_at with_receivers with_receivers_at copies_of
+    with_copies lacks in_set set_of nth set_nth ◌and◌ ◌or◌ neg
 copies = (refl, refl, refl, refl)
 
--- in round 2, by what is counted in round 1: the opening's entry is 10, b ballots are blank and c bear 9; and what that leaves
+-- in round 2, by what is counted in round 1: the opening's entry is 10, b ballots are blank and c bear 9; what that leaves
 abbrev Tallied : ℕ → Delivered → ℕ → ℕ → Allowance → Type 0
 Tallied n d b c a =
     (opening_entry limits n (heard limits d) 1 ≡ 10)
     × (b ≡ count_in n (backs limits (heard limits d) 1 1))
     × (c ≡ count_in n (backs limits (heard limits d) 1 10))
-    × (a ≡ (if leb (quorum n) (b + min c (overlap n - 1)) then Every else (if leb (quorum n) (b + c) then Only 10 else Nothing)))
+    × (a
+    ≡ (if leb (quorum n) (b + min c (overlap n - 1)) then Every else (if leb (quorum n) (b + c) then Only 10 else Nothing)))
 
 second : (n : ℕ) (d : Delivered) (b c : ℕ) (a : Allowance) → Tallied n d b c a → (n ≡ 0 → ⊥) → (w : ℕ)
     → allowed limits n (heard limits d) 2 w ≡ lets a w
 unfolding says lets neg
 second n d b c a k l w =
-    ap
-    (λ (p : ℕ → Bool). p w)
-    (sym (pass-turn limits n (heard limits d) Every a 1 b c (every_first limits n (heard limits d)) l (omega arith) k.1 (rw k.0 k.2) (rw k.0 k.3)))
+    let h = heard limits d in
+    let next = pass-turn limits n h Every a 1 b c (every_first limits n h) l (omega arith) k.1 (rw k.0 k.2) (rw k.0 k.3) in
+    ap (λ (p : ℕ → Bool). p w) (sym next)
 
 tallies : (Tallied 3 nine-blank 1 1 (Only 10))
     × (Tallied 3 blank-blank 2 0 Every)
@@ -94,8 +95,8 @@ tallies : (Tallied 3 nine-blank 1 1 (Only 10))
     × (Tallied 4 nine-blank-blank 2 1 Every)
     × (Tallied 4 nine-nine-blank 1 2 (Only 10))
 unfolding
-    heard_in place_of deliver nothing_delivered identifier_of phase_of is_within coordinator ◌and◌ ◌or◌ neg says bears backs
-    lets count_in plus nth set_nth
+    heard_in place_of deliver nothing_delivered identifier_of phase_of is_within coordinator ◌and◌ ◌or◌ neg says bears
+    backs lets count_in plus nth set_nth
 tallies = (
   (refl, refl, refl, refl),
   (refl, refl, refl, refl),
@@ -137,6 +138,7 @@ unfolding
 letter-k v = (
   refl,
   λ s w z.
-      let none = fails (accepts_opening limits 4 (heard limits (unopened v)) 1 w) (λ o. omega (arith, (opening-reads limits 4 (heard limits (unopened v)) 1 w o).said)) in
-      ballot-unopened limits 4 (heard limits (unopened v)) 1 s w z none,
+      let h = heard limits (unopened v) in
+      let none = fails (accepts_opening limits 4 h 1 w) (λ o. omega (arith, (opening-reads limits 4 h 1 w o).said)) in
+      ballot-unopened limits 4 h 1 s w z none,
 )

@@ -1,5 +1,5 @@
--- What one round leaves to the next: by some speakers and the accepted ballots among theirs, and so by counts of the round's
--- ballots. Assumes nothing.
+-- What one round leaves to the next: by some speakers and the accepted ballots among theirs, and so by counts of the
+-- round's ballots. Assumes nothing.
 use Prim.Native.Nat.{ℕ, ◌+◌, ◌-◌, ◌≤◌, ◌<◌, min}
 use native.Mathlib.Omega.{arith}
 use native.Mathlib.Decide.{dec_le}
@@ -37,12 +37,11 @@ pub backs-value : (L : Limits) (h : Store) (r w s : ℕ) → backs L h r (entry_
 unfolding backs says
 backs-value L h r w s = refl
 
--- w is allowed next, by the entry x of the opening that counts, b blank ballots and c for its value; m: it is allowed in this round
-unfoldable pub by-counts : ℕ → ℕ → ℕ → ℕ → ℕ → Bool → Bool
-by-counts n x b c w m =
-    neg (eqb w 0)
-    and ((eqb x (entry_of w) and leb (quorum n) (b + c) and leb (overlap n) c)
-    or (m and leb (quorum n) (b + min c (overlap n - 1))))
+-- w is allowed next, where the entry of the opening that counts is x, b ballots are blank and c bear its value; m says
+-- whether w is allowed in this round
+unfoldable pub by-counts : ℕ → ℕ → ℕ → ℕ → ℕ → ℕ → Bool → Bool
+by-counts q e x b c w m =
+    neg (eqb w 0) and ((eqb x (entry_of w) and leb q (b + c) and leb e c) or (m and leb q (b + min c (e - 1))))
 
 module _ (L : Limits) (n : ℕ) (h : Store) (r : ℕ) where
   -- of some speakers, a ballot is accepted from each, whatever it bears
@@ -57,8 +56,8 @@ module _ (L : Limits) (n : ℕ) (h : Store) (r : ℕ) where
   abbrev Below : (ℕ → Bool) → ℕ → Type 0
   Below p k = (v : ℕ) → (v ≡ 0 → ⊥) → among p v < k
 
-  -- they leave w to the next round: a ballot is accepted from each of them, and e or more of these bear w, or every value other
-  -- than the blank stands fewer than e times among them while w is allowed in this round
+  -- they leave w to the next round: a ballot is accepted from each of them, and e or more of these bear w, or every value
+  -- other than the blank stands fewer than e times among them while w is allowed in this round
   pub record Leaves (w : ℕ) (p : ℕ → Bool) : Type 0 where
     pub accepted : Heard p
     pub reason : (overlap n ≤ among p w) ⊎ (Below p (overlap n) × (allowed L n h r w ≡ true))
@@ -94,11 +93,13 @@ module _ (L : Limits) (n : ℕ) (h : Store) (r : ℕ) where
   unfolding carries ◌and◌ ◌or◌ neg
   carries-reads w p t =
       let e : every_of (accepts_some L n h r) (picked n p) ≡ true = grind arith in
-      let c : Heard p = λ s l u t. accepted-reads L n h r s (grind (arith, every-reads n _ (sym (every-picked n p _) ∙ e) s l u)) in
+      let every = every-reads n _ (sym (every-picked n p _) ∙ e) in
+      let c : Heard p = λ s l u t. accepted-reads L n h r s (grind (arith, every s l u)) in
       let q : count_in n p ≡ quorum n = grind (arith, nat_tests, length-picked) in
       (q, record { accepted = c; reason = go c (dec_le (overlap n) (among p w)) })
     where
-      go : Heard p → Dec (overlap n ≤ among p w) → (overlap n ≤ among p w) ⊎ (Below p (overlap n) × (allowed L n h r w ≡ true))
+      go : Heard p → Dec (overlap n ≤ among p w)
+          → (overlap n ≤ among p w) ⊎ (Below p (overlap n) × (allowed L n h r w ≡ true))
       go c (yes l) = inl l
       go c (no l) =
           let d : divided L n h r (picked n p) ≡ true = grind (arith, nat_tests, count-among p c w) in
@@ -119,7 +120,8 @@ module _ (L : Limits) (n : ℕ) (h : Store) (r : ℕ) where
 
   -- so what is allowed next is what some q speakers leave
   module _ (w : ℕ) (low : 1 ≤ r) where
-    pub later-reads : allowed L n h (r + 1) w ≡ true → (w ≡ 0 → ⊥) × ((p : ℕ → Bool) × (count_in n p ≡ quorum n) × Leaves w p)
+    pub later-reads : allowed L n h (r + 1) w ≡ true
+        → (w ≡ 0 → ⊥) × ((p : ℕ → Bool) × (count_in n p ≡ quorum n) × Leaves w p)
     unfolding allowed_after carries accepts_some ◌and◌ neg
     later-reads a =
         let a' = rw (allowed-next L n h r w low) at a in
@@ -127,7 +129,8 @@ module _ (L : Limits) (n : ℕ) (h : Store) (r : ℕ) where
         let y = carries-reads w x.0 x.1 in
         (λ z. grind (arith, a'), (x.0, y.0, y.1))
 
-    pub reads-later : (w ≡ 0 → ⊥) → (p : ℕ → Bool) → count_in n p ≡ quorum n → Leaves w p → allowed L n h (r + 1) w ≡ true
+    pub reads-later : (w ≡ 0 → ⊥) → (p : ℕ → Bool) → count_in n p ≡ quorum n → Leaves w p
+        → allowed L n h (r + 1) w ≡ true
     unfolding allowed_after carries accepts_some ◌and◌ neg
     reads-later z p q l =
         let x = picked-some n (carries w) p (reads-carries w p q l) in
@@ -142,6 +145,10 @@ module _ (L : Limits) (n : ℕ) (h : Store) (r : ℕ) where
 
   abbrev pub backing : ℕ
   backing = count_in n (backs L h r entry)
+
+  -- w is allowed next, by these
+  abbrev pub counted : ℕ → Bool
+  counted w = by-counts (quorum n) (overlap n) entry blank backing w (allowed L n h r w)
 
   -- and of some speakers' ballots
   abbrev backing-among : (ℕ → Bool) → ℕ
@@ -166,13 +173,18 @@ module _ (L : Limits) (n : ℕ) (h : Store) (r : ℕ) where
 
   pub blank-backing : blank + backing ≤ n
   blank-backing =
-      omega (arith, count-apart n (bears L h r 0) (backs L h r entry) apart, count-le n (λ (s : ℕ). bears L h r 0 s or backs L h r entry s))
+      omega (
+        arith,
+        count-apart n (bears L h r 0) (backs L h r entry) apart,
+        count-le n (λ (s : ℕ). bears L h r 0 s or backs L h r entry s),
+      )
 
   value-backs : (w s : ℕ) → (w ≡ 0 → ⊥) → accepts_ballot L n h r s w ≡ (eqb entry (entry_of w) and backs L h r entry s)
   unfolding accepts_ballot accepts_opening counts says backs bears ◌and◌ ◌or◌
   value-backs w s z = grind (arith, nat_tests, opened-entry)
 
-  pub value-among : (p : ℕ → Bool) (w : ℕ) → (w ≡ 0 → ⊥) → accepts_opening L n h r w ≡ true → among p w ≡ backing-among p
+  pub value-among : (p : ℕ → Bool) (w : ℕ) → (w ≡ 0 → ⊥) → accepts_opening L n h r w ≡ true
+      → among p w ≡ backing-among p
   unfolding ◌and◌
   value-among p w z o = count-cong n _ _ (λ s l u. grind (arith, value-backs w s, opened-entry w))
 
@@ -185,12 +197,13 @@ module _ (L : Limits) (n : ℕ) (h : Store) (r : ℕ) where
       go (no m) = omega arith
       go (yes m) =
           let s = find n (λ (s : ℕ). p s and backs L h r entry s) m in
-          let v : entry - 1 ≡ 0 → ⊥ = λ e. grind (arith, s.3, entry-some) in
-          let o : accepts_opening L n h r (entry - 1) ≡ true = grind (arith, nat_tests, s.3, opened-entry (entry - 1)) in
-          omega (arith, f (entry - 1) v, value-among p (entry - 1) v o)
+          let v = entry - 1 in
+          let z : v ≡ 0 → ⊥ = λ e. grind (arith, s.3, entry-some) in
+          let o : accepts_opening L n h r v ≡ true = grind (arith, nat_tests, s.3, opened-entry v) in
+          omega (arith, f v z, value-among p v z o)
 
   pub leaves-counts : (w : ℕ) (p : ℕ → Bool) → 1 ≤ n → (w ≡ 0 → ⊥) → quorum n ≤ count_in n p → Leaves w p
-      → by-counts n entry blank backing w (allowed L n h r w) ≡ true
+      → counted w ≡ true
   unfolding by-counts accepts_ballot accepts_opening counts ◌and◌ ◌or◌ neg
   leaves-counts w p some z q l =
       ⊎_elim
@@ -213,10 +226,14 @@ module _ (L : Limits) (n : ℕ) (h : Store) (r : ℕ) where
   module _ (w : ℕ) (low : 1 ≤ r) where
     -- and these counts give a choice of exactly q: i blank ballots and j for the opening's value
     chosen : (i j : ℕ) → (w ≡ 0 → ⊥) → i ≤ blank → j ≤ backing → i + j ≡ quorum n
-        → ((entry ≡ entry_of w) × (overlap n ≤ j)) ⊎ ((allowed L n h r w ≡ true) × (j < overlap n)) → allowed L n h (r + 1) w ≡ true
+        → ((entry ≡ entry_of w) × (overlap n ≤ j)) ⊎ ((allowed L n h r w ≡ true) × (j < overlap n))
+        → allowed L n h (r + 1) w ≡ true
     unfolding first ◌and◌ ◌or◌
     chosen i j z a b e t =
-        reads-later w low z p size (record { accepted = λ s l u t. accepted-reads L n h r s (grind (arith, some-either s)); reason = reason })
+        reads-later w low z p size (record {
+          accepted = λ s l u t. accepted-reads L n h r s (grind (arith, some-either s));
+          reason = reason;
+        })
       where
         p : ℕ → Bool
         p s = first i (bears L h r 0) s or first j (backs L h r entry) s
@@ -231,7 +248,9 @@ module _ (L : Limits) (n : ℕ) (h : Store) (r : ℕ) where
             )
 
         back : backing-among p ≡ j
-        back = count-cong n _ (first j (backs L h r entry)) (λ s l u. grind (arith, apart s)) ∙ (omega (arith, count-first n j (backs L h r entry)))
+        back =
+            count-cong n _ (first j (backs L h r entry)) (λ s l u. grind (arith, apart s))
+            ∙ (omega (arith, count-first n j (backs L h r entry)))
 
         few : (v : ℕ) → (v ≡ 0 → ⊥) → among p v ≤ j
         few v y =
@@ -245,21 +264,24 @@ module _ (L : Limits) (n : ℕ) (h : Store) (r : ℕ) where
             (λ t. inr (λ v y. omega (arith, t.1, few v y), t.0))
             t
 
-    pub counts-later : 1 ≤ n → by-counts n entry blank backing w (allowed L n h r w) ≡ true → allowed L n h (r + 1) w ≡ true
+    pub counts-later : 1 ≤ n → counted w ≡ true → allowed L n h (r + 1) w ≡ true
     unfolding by-counts ◌and◌ ◌or◌ neg
     counts-later some t =
         let z : w ≡ 0 → ⊥ = λ z. grind arith in
         let s : ((entry ≡ entry_of w) × (quorum n ≤ blank + backing) × (overlap n ≤ backing))
         ⊎ ((allowed L n h r w ≡ true) × (quorum n ≤ blank + min backing (overlap n - 1))) = grind (arith, nat_tests) in
         ⊎_elim
-        (λ t. let j = min backing (quorum n) in chosen (quorum n - j) j z (omega arith) (omega arith) (omega arith) (inl (t.0, omega arith)))
+        (λ t.
+        let j = min backing (quorum n) in
+        chosen (quorum n - j) j z (omega arith) (omega arith) (omega arith) (inl (t.0, omega arith)))
         (λ t.
         let j = min backing (overlap n - 1) in
-        chosen (quorum n - j) j z (omega arith) (omega arith) (omega arith) (inr (t.0, omega (arith, overlap-pos n some))))
+        let e = overlap-pos n some in
+        chosen (quorum n - j) j z (omega arith) (omega arith) (omega arith) (inr (t.0, omega arith)))
         s
 
     -- so what is allowed next goes by them
-    pub later-counts : 1 ≤ n → allowed L n h (r + 1) w ≡ by-counts n entry blank backing w (allowed L n h r w)
+    pub later-counts : 1 ≤ n → allowed L n h (r + 1) w ≡ counted w
     later-counts some =
         same_test
         _

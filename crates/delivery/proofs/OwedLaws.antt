@@ -66,7 +66,8 @@ module _ (L : Limits) (o : Owed) (s i m : ℕ) where
       let low = within_low L.boards s b in
       let high : s ≤ length o.speakers = omega (arith, w.size, within-high L.boards s b) in
       let inner : i ≤ length (copies_of L o s).receivers = omega (arith, w.each s, within-high L.identifiers i h) in
-      ap (λ (c : Copies). receivers_at c i) (nth-set-same o.speakers s (with_receivers_at (copies_of L o s) i m) (no_copies L) low high)
+      let at = nth-set-same o.speakers s (with_receivers_at (copies_of L o s) i m) (no_copies L) low high in
+      ap (λ (c : Copies). receivers_at c i) at
       ∙ nth-set-same (copies_of L o s).receivers i m 0 (within_low L.identifiers i h) inner
 
   pub with-there : (s' i' : ℕ) → (s' ≡ s → i' ≡ i → ⊥)

@@ -26,7 +26,8 @@ module _ (L : Limits) (es : List ℕ) (r : ℕ) where
   -- a number that no board can have bears nothing
   silent : (s : ℕ) → L.boards < s → ballot_entry L (heard_in L es) r s ≡ 0
   silent s l =
-      heard-nobody L es s (identifier_of L Ballot r) (fails (is_board L s) (λ b. omega (arith, within-high L.boards s b)))
+      let none = fails (is_board L s) (λ b. omega (arith, within-high L.boards s b)) in
+      heard-nobody L es s (identifier_of L Ballot r) none
 
   -- a ballot backs the entry x, which is not 0, exactly if its entry is x
   pub backs-test : (x s i : ℕ) → (x ≡ 0 → ⊥) → i ≡ identifier_of L Ballot r

@@ -25,10 +25,16 @@ unfolding lacks ◌and◌ ◌or◌ neg
 returns c =
     record {
       nothing_delivered = ((delivered.nothing-whole limits).size, delivered.heard-nothing limits);
-      keeps = λ d s i v. (λ p. (delivered.deliver-whole limits d s i v (record { size = p })).size, deliver-grows limits d s i v);
+      keeps = λ d s i v. (
+        λ p. (delivered.deliver-whole limits d s i v (record { size = p })).size,
+        deliver-grows limits d s i v,
+      );
       adds = λ d s i v p. delivered.deliver-same limits d s i v (record { size = p });
       only = delivered.deliver-other limits;
-      nothing_owed = (sets _ (owed.nothing-whole limits), λ s i k t. grind (arith, owed.owed-nothing limits s i, in-none k));
+      nothing_owed = (
+        sets _ (owed.nothing-whole limits),
+        λ s i k t. grind (arith, owed.owed-nothing limits s i, in-none k),
+      );
       signing = λ o s i sound have k w b d low high.
           rw
           (owed.signing-here limits o s i sound have (whole o w) b d, in-set_of-within bits _ k low high)

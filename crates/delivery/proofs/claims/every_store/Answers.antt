@@ -36,7 +36,8 @@ returns c =
         λ b. reads-ballot limits n h r s w (record { said = b.0; backed = b.1 }),
       );
       some_ballots = λ n h r s. (accepted-reads limits n h r s, λ b. reads-accepted limits n h r s b.0 b.1);
-      first_round = λ n h w. rw (allowed-first limits n h w) (λ a. grind (arith, nat_tests), λ z. grind (arith, nat_tests));
+      first_round = λ n h w.
+          rw (allowed-first limits n h w) (λ a. grind (arith, nat_tests), λ z. grind (arith, nat_tests));
       later_rounds = λ n h r w low. (
         λ a.
             let x = round.later-reads limits n h r w low a in
@@ -44,7 +45,8 @@ returns c =
         λ x. round.reads-later limits n h r w low x.0 x.1.0 x.1.1 (leaves n h r w x.1.0 x.1.2),
       );
       more_speakers = λ n h r w some low z p q l.
-          round.counts-later limits n h r w low some (round.leaves-counts limits n h r w p some z q (leaves n h r w p l));
+          let counted = round.leaves-counts limits n h r w p some z q (leaves n h r w p l) in
+          round.counts-later limits n h r w low some counted;
       one_opening = one-opening limits;
       one_won = won-one limits;
       only_later = later-only limits;
