@@ -11,7 +11,7 @@ use Rattle.delivery.specs.Delivered.{nothing_delivered, heard, deliver}
 use Rattle.delivery.specs.Sets.{with_board, without_board}
 use Rattle.delivery.specs.declared.delivered.Delivered.{Delivered}
 use Rattle.signer.proofs.ConditionalLaws.{if-true, if-false}
-use Rattle.delivery.proofs.TestLaws.{and_in, and_right, and-no-left, and-no-right, neg-in, neg-no, or_left, or_right, or_no, same_test}
+use Rattle.delivery.proofs.TestLaws.{and_in, and_right, and-no-left, and-no-right, neg-in, neg-no, or_left, or_right, or_no}
 use Rattle.delivery.proofs.AgreementLaws.{Won}
 use Rattle.vote.specs.Ballots.{tally}
 use Rattle.vote.specs.Boards.{fresh_position, fresh_board, is_started, is_decided, decision_of, with_status, starting_with, propose, hears, deliver_to, suspecting, suspect, trust}
