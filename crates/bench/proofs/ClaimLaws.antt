@@ -54,6 +54,7 @@ use Rattle.bench.proofs.OwedLaws.{Lacks, owed-lacks, lacks-owed, nothing-owed}
 use Rattle.bench.proofs.OriginLaws.{Rooted, rooted-refused, opened-origin, rooted-accepted}
 use Rattle.bench.proofs.ShowLaws.{shown-decided}
 
+-- what every list of events keeps
 pub record Sure (L : Limits) (S : Setup) (H : History) (c : Bench) : Type 0 where
   pub bus : setup_of c ≡ S
   pub fit : Fit L S c
