@@ -40,6 +40,7 @@ pub record Passed (L : Limits) (c : Bench) (e : Event) : Type 0 where
   pub ballots : ballots_row L c e ≡ false
   pub turn : turn_row L c e ≡ false
 
+-- an accepted event has passed them
 pub accepted-passed : (L : Limits) (c : Bench) (e : Event) → is_accepted (check_of L c e) ≡ true → Passed L c e
 unfolding check_of first_of is_accepted
 accepted-passed L c e t = grind arith

@@ -30,14 +30,14 @@ use Rattle.vote.proofs.StatusLaws.{decided-one}
 use Rattle.vote.proofs.ProperLaws.{voting-round}
 use Rattle.vote.specs.Life.{Signs, signs-opening, signs-ballot}
 use Rattle.vote.proofs.SigningLaws.{signs-due, turn-signs}
-use Rattle.bench.specs.Benches.{is_sound, board_at, signer_at, heard_by, signed_by}
+use Rattle.bench.specs.Benches.{board_at, signer_at, heard_by, signed_by}
 use Rattle.bench.specs.Setups.{Setup, setup, bench_of, fresh_bench, fresh_of}
 use Rattle.bench.specs.Answers.{answer_number, is_accepted}
 use Rattle.bench.specs.Table.{check_of}
 use Rattle.bench.specs.Effects.{effect_of, step_of}
 use Rattle.bench.specs.Runs.{steps, last_of, after, answers_to}
-use Rattle.bench.specs.Story.{Entry, History, history_of, Standing, standing_after}
-use Rattle.bench.specs.Claim.{Sound, Signed, Delivered, Decided, Origin, Owed, NothingOwed, AllAlike, Shows, Agreement}
+use Rattle.bench.specs.Story.{Entry, History, history_of, Standing}
+use Rattle.bench.specs.Claim.{Sound, Decided, Owed, NothingOwed, AllAlike, Agreement}
 use Rattle.bench.specs.declared.bench.Bench.{Bench}
 use Rattle.bench.specs.declared.event.Event.{Event}
 use Rattle.bench.proofs.AnswerLaws.{step-accepted, step-refused}
@@ -54,6 +54,7 @@ use Rattle.bench.proofs.OwedLaws.{Lacks, owed-lacks, lacks-owed, nothing-owed}
 use Rattle.bench.proofs.OriginLaws.{Rooted, rooted-refused, opened-origin, rooted-accepted}
 use Rattle.bench.proofs.ShowLaws.{shown-decided}
 
+-- what every list of events keeps
 pub record Sure (L : Limits) (S : Setup) (H : History) (c : Bench) : Type 0 where
   pub bus : setup_of c ≡ S
   pub fit : Fit L S c
@@ -181,8 +182,8 @@ module _ {L : Limits} {S : Setup} {H : History} {c : Bench} (g : Ground L S) (y 
       go (suc v) e = (v, (owed-shown k s i v).1 (t, was-signed y.fit.sane l.holder s i v e))
 
   -- where no copy is owed, what one sound board has heard every other has
-  all-alike : NothingOwed L S H → AllAlike L S H
-  all-alike n j k p q s i v d =
+  all_alike : NothingOwed L S H → AllAlike L S H
+  all_alike n j k p q s i v d =
       ⊎_elim
       (λ z. absurd (n k s i v (lacks-owed (lacks z))))
       (y.tells.delivered k s i v).1
@@ -208,9 +209,9 @@ module _ {L : Limits} {S : Setup} {H : History} {c : Bench} (g : Ground L S) (y 
   identified k s (signs-ballot v q j) =
       rw (← j) (identifier-within L Ballot _ g.identifiers-enough (voting-round L (board_at L c k) (y.fit.proper k) v))
 
-  signer-grants : (k : ℕ) → Sound L S k → (s : Statement) → (turn L c.n k (board_at L c k)).signed ≡ Some s
+  sure-signs : (k : ℕ) → Sound L S k → (s : Statement) → (turn L c.n k (board_at L c k)).signed ≡ Some s
       → grants L.identifiers (signer_at L c k) s.id.0 ≡ true
-  signer-grants k t s e =
+  sure-signs k t s e =
       let w = turn-signs L c.n k (board_at L c k) s e in
       let o = signs-due L c.n k (board_at L c k) s w in
       let i = identified k s w in
@@ -252,7 +253,7 @@ sure-agrees L n marks g H c y =
           opened-origin g y.fit y.tells y.rooted k r v o.said;
       one_value = λ k i v w p q. entry-one v w (sym ((y.tells.signed k i v).0 p) ∙ (y.tells.signed k i w).0 q);
       integrity = λ k s i v d. (y.tells.signed s i v).1 (was-signed y.fit.sane k s i v ((y.tells.delivered k s i v).0 d));
-      owed = (all-alike g y, nothing-owed);
+      owed = (all_alike g y, nothing-owed);
       shows =
           record {
             decided =
@@ -271,5 +272,5 @@ sure-agrees L n marks g H c y =
             ap (λ (t : Standing). t.position) (sym (y.tells.stands k)),
             λ s i. ap (λ (t : Standing). t.heard s i) (sym (y.tells.stands k)),
           );
-      signs = signer-grants g y;
+      signs = sure-signs g y;
     }

@@ -67,17 +67,16 @@ module _ {L : Limits} {c : Bench} (g : Ground L (setup_of c)) (f : Fit L (setup_
       (l, omega (arith, g.bits-enough), in-set_of-within L.boards (λ (j : ℕ). neg (eqb (heard_by L c j s i) 0)) k l h)
 
   -- an event of which nobody hears anything, a delivery, and a turn
-  unowed : c'.owed ≡ c.owed → ((k s i : ℕ) → heard_by L c' k s i ≡ heard_by L c k s i)
-      → Spread L c.sound c'.owed (heard_by L c')
-  unowed p q =
-      subst⁻¹
-      (λ (o : Owed). Spread L c.sound o (heard_by L c'))
-      p
-      (λ k s i. let z = fun_ext (λ (j : ℕ). q j s i) in rw z (f.spread k s i))
+  unheard : ((k s i : ℕ) → heard_by L c' k s i ≡ heard_by L c k s i) → Spread L c.sound c.owed (heard_by L c')
+  unheard q k s i = let z = fun_ext (λ (j : ℕ). q j s i) in rw z (f.spread k s i)
 
   quiet : (e.kind ≡ turning → ⊥) → (e.kind ≡ delivering → ⊥) → Spread L c.sound c'.owed (heard_by L c')
   unfolding put believing
-  quiet n m = unowed (owed-kept L c e n m) (λ k s i. heard-then k s i ∙ grind (arith, nat_tests))
+  quiet n m =
+      subst⁻¹
+      (λ (o : Owed). Spread L c.sound o (heard_by L c'))
+      (owed-kept L c e n m)
+      (unheard (λ k s i. heard-then k s i ∙ grind (arith, nat_tests)))
 
   hears : e.kind ≡ delivering → Spread L c.sound c'.owed (heard_by L c')
   unfolding put believing hearing ◌and◌
@@ -115,11 +114,7 @@ module _ {L : Limits} {c : Bench} (g : Ground L (setup_of c)) (f : Fit L (setup_
       go : (x : Option Statement) → (turn L c.n e.a b).signed ≡ x
           → IfSome x (λ (y : Statement). (y.speaker ≡ e.a) × New L b.delivered e.a y.id.0)
           → Spread L c.sound (owed_saying L c e x) (heard_by L c')
-      go None n p =
-          λ k s i.
-          let z : (λ (j : ℕ). heard_by L c' j s i) ≡ (λ (j : ℕ). heard_by L c j s i) =
-          fun_ext (λ (j : ℕ). let y = heard-said j s i in grind (arith, nat_tests)) in
-          rw z (f.spread k s i)
+      go None n p = unheard (λ k s i. let z = heard-said k s i in grind (arith, nat_tests))
       go (Some x) n p =
           signing-spreads
           f.complete
@@ -134,6 +129,7 @@ module _ {L : Limits} {c : Bench} (g : Ground L (setup_of c)) (f : Fit L (setup_
           f.spread
           refl
 
+  -- so copies are owed as they should be
   spread-kept : Spread L c.sound c'.owed (heard_by L c')
   spread-kept = go (ℕ_discrete e.kind turning) (ℕ_discrete e.kind delivering)
     where
@@ -204,9 +200,11 @@ module _ {L : Limits} {c : Bench} (g : Ground L (setup_of c)) (f : Fit L (setup_
   ahead-kept k t =
       let p = boards-cases k in let q = signers-cases k in let r = f.ahead k t in let u = own-ahead in grind arith
 
+  -- and is one of the same bus
   pub same-setup : setup_of c' ≡ S
   same-setup = let p = same-bus L c e in cc
 
+  -- the bench after an accepted event is fit
   pub kept : Fit L S c'
   kept =
       record {

@@ -1,7 +1,12 @@
--- What is claimed of every list of events is shown in Demands. Before it, in the order in which they rest on one another: laws
--- of the machine, of histories, of one accepted event, of what is read off the bench after it, and of every list of events.
--- After it, that the table's two texts say the same (AppliesLaws), and those of the call for a fresh bench (MakingLaws); and
--- the rules by which private calls are proved.
+-- That every list of events is as claimed goes so, from the bottom up. What a history says it says entry by entry
+-- (MomentLaws, HistoryLaws, OwedLaws). A bench has a view: where each board stands, how far it is, and what is signed
+-- (ViewLaws). An accepted event is replayed on a view, and what it adds to the history is what is new there
+-- (ReplayLaws); so a history tells a view after each entry (TellsLaws). What passes the table (AcceptedLaws) has an
+-- effect, which is read back (EffectLaws); and the view of the effect is the replay of the view (SquareLaws). What else
+-- holds of a bench that was played (FitLaws, of owed copies SpreadLaws) stays so (InvariantLaws), and values still come
+-- from where they may (OriginLaws). So each list keeps all this, which gives the claim (ClaimLaws); it begins with a
+-- fresh bench (SetupLaws, OutsetLaws). Demands has what src/claims promises. Then that the table's two texts say the same
+-- (AppliesLaws), and those of the call for a fresh bench (MakingLaws).
 pub mod TableLaws
 pub mod TurnLaws
 pub mod BenchLaws

@@ -46,6 +46,7 @@ use Rattle.bench.proofs.AcceptedLaws.{Accepted}
 use Rattle.bench.proofs.SquareLaws.{lawful}
 use Rattle.bench.proofs.TellsLaws.{Tells}
 
+-- the estimates of sound boards, and the openings that they signed, have origins
 pub record Rooted (L : Limits) (S : Setup) (H : History) (V : View) : Type 0 where
   pub estimates : (k : ℕ) → Sound L S k → ((V.stands k).position.estimate ≡ 0 → ⊥)
       → Origin L S H (V.stands k).position.estimate
@@ -158,6 +159,7 @@ module _ {L : Limits} {H : History} {c : Bench} (g : Ground L (setup_of c)) (f :
           (voting-round L (board_at L c k) (f.proper k) x)
           (sym (ap (λ (z : Statement). z.id.0) j)))
 
+  -- and so it is after an accepted event
   pub rooted-accepted : Rooted L S H' (replay L S (view L c) e)
   rooted-accepted =
       record {

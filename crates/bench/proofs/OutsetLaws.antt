@@ -124,6 +124,7 @@ module _ (L : Limits) (S : Setup) where
         sane = rw sees-nothing (record { part = λ k s i. inl refl; own = λ k i t. refl });
       }
 
+  -- so all that every list keeps holds of the empty one
   pub sure-fresh : Sure L S [] empty
   unfolding bench_of
   sure-fresh =

@@ -5,22 +5,20 @@ use native.Mathlib.Omega.{arith}
 use mathlib.Core.Path.{◌≡◌, refl, sym, ap, ◌∙◌, fun_ext}
 use mathlib.Core.Bool.{Bool, true, false, true≢false}
 use mathlib.Core.List.{List}
-use mathlib.Core.Logic.{⊎_elim}
 use lib.Dec.{eqb}
 use Rattle.signer.specs.FromOne.{is_within, nth}
-use Rattle.std.specs.Prelude.{Result, Ok, Err, if◌then◌else◌}
+use Rattle.std.specs.Prelude.{Result, Ok, Err}
 use Rattle.signer.proofs.ConditionalLaws.{if-true}
 use Rattle.signer.proofs.FromOneLaws.{within_low, within-high, within_in, within-out}
 use Rattle.delivery.specs.Limits.{Limits, limits}
 use Rattle.delivery.specs.Bus.{is_board}
 use Rattle.delivery.specs.Counting.{every_in}
 use Rattle.delivery.specs.Sets.{in_set, set_of, with_board}
-use Rattle.delivery.proofs.TestLaws.{decided, fails}
+use Rattle.delivery.proofs.TestLaws.{fails}
 use Rattle.delivery.proofs.CountLaws.{every-reads, reads-every}
 use Rattle.delivery.proofs.SetLaws.{in-set_of-outside, set-none, with-next}
-use Rattle.bench.specs.Setups.{is_mark, is_mark_at, is_marked_sound, Setup, alone, fresh_answer, setup_by, setup, bench_of, fresh_bench, fresh_of}
+use Rattle.bench.specs.Setups.{is_mark, is_mark_at, is_marked_sound, Setup, alone, fresh_answer, setup_by, setup, fresh_bench, fresh_of}
 use Rattle.bench.specs.declared.answer.SetupFault.{SetupFault}
-use Rattle.bench.specs.declared.answer.SetupFault.TheVariants.{NoBus, NoMark}
 use Rattle.bench.proofs.FitLaws.{Ground}
 
 -- the members of a set of 1 to n are among them, and the set of board 1 alone is such a set

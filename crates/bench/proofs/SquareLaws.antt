@@ -113,6 +113,7 @@ module _ {L : Limits} {c : Bench} (g : Ground L (setup_of c)) (f : Fit L (setup_
         },
       ))
 
+  -- the event is lawful on the view
   pub lawful : Lawful L S (view L c) e
   lawful =
       record {
@@ -143,6 +144,7 @@ module _ {L : Limits} {c : Bench} (g : Ground L (setup_of c)) (f : Fit L (setup_
       (λ k. record { speaker = is-there g e.b (acc.speaker k); identifier = acc.identified k; unheard = acc.unheard k })
       (λ k. IfSome_then (turn L c.n e.a (board_at L c e.a)).signed (says-new k) (λ x p. rw p.0 p.1))
 
+  -- reading the bench after the event gives what replaying the event gives on what was read before
   pub square : view L (effect_of L c e) ≡ replay L S (view L c) e
   square =
       let old = board_at L c in

@@ -19,6 +19,7 @@ use Rattle.bench.proofs.ViewLaws.{View, put}
 use Rattle.bench.proofs.ReplayLaws.{Lawful, Sane, replay, replay-signs, replay-delivers, replay-decides}
 use Rattle.bench.proofs.HistoryLaws.{signed-more, delivered-more, decided-more}
 
+-- a history says just what a view shows
 pub record Tells (L : Limits) (S : Setup) (H : History) (V : View) : Type 0 where
   pub stands : (k : ℕ) → standing_after L S.n k H ≡ V.stands k
   pub signed : (k i v : ℕ) → Signed L S H k i v ↔ (V.signed k i ≡ entry_of v)
@@ -36,6 +37,7 @@ same : {A A' B C R : Type 0} → A' ↔ (A ⊎ (R × B)) → (R → ⊥) → A �
 same m n z = (λ p. ⊎_elim z.0 (λ b. absurd (n b.0)) (m.0 p), λ c. m.1 (inl (z.1 c)))
 
 module _ {L : Limits} {S : Setup} {H : History} {V : View} (y : Tells L S H V) where
+  -- so it does with a refused event more, on the same view, and with an accepted one, on the view where that is replayed
   pub tells-refused : (x : Entry) → (x.answer ≡ 0 → ⊥) → Tells L S (H then x) V
   unfolding after_entry ◌and◌
   tells-refused x n =

@@ -57,6 +57,7 @@ module _ (L : Limits) (n me : ℕ) (b : Board) where
   left (suspicion k) = suspecting b (with_board b.position.suspected k)
   left (restored-trust k) = suspecting b (without_board b.position.suspected k)
 
+  -- it leaves just that
   pub taken-leaves : (c : Call) → Taken c → called L n me b c ≡ left c
   unfolding called propose deliver_to announce suspect trust turn turn_in with_status ◌or◌
   taken-leaves (proposal v) t = grind (arith, nat_tests)
