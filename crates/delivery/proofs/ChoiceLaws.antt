@@ -67,10 +67,6 @@ every-picked (suc n) p q = grind (arith, every-picked n p q)
 unfoldable pub first : ℕ → (ℕ → Bool) → ℕ → Bool
 first i p k = p k and leb (count_in k p) i
 
-pub first-passes : (i : ℕ) (p : ℕ → Bool) (k : ℕ) → first i p k ≡ true → p k ≡ true
-unfolding first ◌and◌
-first-passes i p k h = grind arith
-
 pub count-first : (n i : ℕ) (p : ℕ → Bool) → count_in n (first i p) ≡ min i (count_in n p)
 unfolding first count_in plus ◌and◌
 count-first zero i p = omega arith

@@ -1,17 +1,18 @@
 -- Laws of what a board has delivered. Assumes nothing.
-use Prim.Native.Nat.{ℕ, ◌*◌, ◌≤◌}
+use Rattle.std.specs.Prelude.{None, Some}
+use Prim.Native.Nat.{◌+◌, ℕ, ◌*◌, ◌≤◌}
 use mathlib.Core.Path.{◌≡◌}
 use mathlib.Core.List.{List}
 use mathlib.Core.Bool.{true, false}
 use mathlib.Core.Logic.{◌⊎◌}
 use native.Mathlib.Omega.{arith}
-use lib.ListN.{length, length-replicate}
+use lib.ListN.{length, get_or, set, length-replicate}
 use Rattle.std.proofs.lemmas.Bool.Decides.{nat_tests}
 use Rattle.signer.specs.Log.{is_identifier, entry_of}
 use Rattle.signer.proofs.FromOneLaws.{nth-none, set_nth-none, nth_after, set_nth-index, length-set_nth, nth-set-same, nth-replicate, within_low, nth-change}
 use Rattle.delivery.specs.Limits.{Limits}
 use Rattle.delivery.specs.Bus.{is_board}
-use Rattle.delivery.specs.Delivered.{place_of, heard_in, nothing_delivered, heard, deliver}
+use Rattle.delivery.specs.Delivered.{place_of, index_of, heard_in, nothing_delivered, heard, deliver}
 use Rattle.delivery.specs.declared.delivered.Delivered.{Delivered}
 use Rattle.delivery.proofs.PlaceLaws.{place-none, place-some, place-nobody, place-outside, place-there, place-high, place-own, index-nobody, index-outside, index-there, index-high}
 
@@ -69,7 +70,35 @@ module _ (L : Limits) (d : Delivered) (s i v : ℕ) where
   pub deliver-keeps : (s' i' : ℕ) → (heard L d s' i' ≡ 0 → ⊥) → heard L (deliver L d s i v) s' i' ≡ heard L d s' i'
   deliver-keeps s' i' h = grind (arith, deliver-only s' i')
 
--- for the functions: by the index at which an entry stands
+-- by the index at which an entry stands, for the functions
+module _ (L : Limits) (d : Delivered) (s i : ℕ) where
+  pub heard-none : index_of L s i ≡ None → heard L d s i ≡ 0
+  unfolding heard_in
+  heard-none e = nth-none d.entries (place_of L s i) 0 (λ l. absurd (omega (arith, place-none L s i e)))
+
+  pub heard-at : (j : ℕ) → index_of L s i ≡ Some j → heard L d s i ≡ get_or d.entries j 0
+  unfolding heard_in
+  heard-at j e = rw (place-some L s i j e) (nth_after d.entries j 0)
+
+  pub deliver-none : (v : ℕ) → index_of L s i ≡ None → deliver L d s i v ≡ d
+  unfolding deliver
+  deliver-none v e =
+      let same = set_nth-none d.entries (place_of L s i) (entry_of v) (λ l. absurd (omega (arith, place-none L s i e))) in
+      grind arith
+
+  pub deliver-at : (v j : ℕ) → index_of L s i ≡ Some j → get_or d.entries j 0 ≡ 0
+      → deliver L d s i v ≡ record { entries = set d.entries j (entry_of v) }
+  unfolding deliver
+  deliver-at v j e z =
+      let there = set_nth-index d.entries (j + 1) (entry_of v) (omega arith) in
+      grind (arith, nat_tests, heard-at j e, place-some L s i j e)
+
+  pub deliver-taken : (v j : ℕ) → index_of L s i ≡ Some j → (get_or d.entries j 0 ≡ 0 → ⊥) → deliver L d s i v ≡ d
+  unfolding deliver
+  deliver-taken v j e f = grind (arith, nat_tests, heard-at j e)
+
 pub ruleset indexes = (index-nobody, index-outside, index-there, within_low)
 
-pub ruleset entries = (nat_tests, place-none, place-some, index-high, nth-none, nth_after, set_nth-none, set_nth-index)
+pub ruleset entries = (heard-at, heard-none, index-high)
+
+pub ruleset delivers = (deliver-at, deliver-none, deliver-taken, index-high)

@@ -14,4 +14,3 @@ pub mod GrowthLaws
 pub mod AllowanceLaws
 pub mod PollLaws
 pub mod ExampleLaws
-pub mod Rules

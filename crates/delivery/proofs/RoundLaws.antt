@@ -65,3 +65,6 @@ ballot-opening L r h h' = omega (arith, identifier-ballot L r h, identifier-open
 pub next-at : (L : Limits) (r : ℕ) → r < L.rounds → next_round L r ≡ suc r
 unfolding next_round
 next-at L r l = grind (arith, nat_tests)
+
+-- for the functions
+pub ruleset within = (within-high, within_low)

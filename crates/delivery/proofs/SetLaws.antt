@@ -198,3 +198,14 @@ unfolding union ◌or◌ ◌and◌
 union-sets n p p' l =
     let either = members n (λ (j : ℕ). p j or p' j) in
     sym (set_is bits _ _ l (λ k s t. grind (arith, nat_tests, members n p k, members n p' k, either k)))
+
+-- for the functions
+pub ruleset counting = (ones-masked, ones-every)
+
+pub ruleset containing = (within_low, within-high, in-index, in-unnumbered)
+
+pub ruleset single = (within_low, within-high, with-unnumbered, shifted-alone)
+
+pub ruleset joining = (or-union, and_not-minus)
+
+pub ruleset changing = (union-alone, minus-without)

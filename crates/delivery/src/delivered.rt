@@ -49,7 +49,7 @@ impl Delivered {
     }
 
     // What a speaker said under an identifier, as a log's entry.
-    #[tactic(auto, using(crate::proofs::DeliveredLaws::entries), unfolding(crate::specs::Delivered::heard_in))]
+    #[tactic(auto, using(crate::proofs::DeliveredLaws::entries))]
     pub fn entry(&self, speaker: u8, id: Identifier) -> u32
         ensures { result ≡ heard limits self.now speaker id.0 }
     {
@@ -61,7 +61,7 @@ impl Delivered {
 
     // Takes in one statement more. What stands there already is kept, and a statement that no board
     // can make is left out.
-    #[tactic(auto, using(crate::proofs::DeliveredLaws::entries), unfolding(crate::specs::Delivered::deliver, crate::specs::Delivered::heard_in))]
+    #[tactic(auto, using(crate::proofs::DeliveredLaws::delivers))]
     pub fn deliver(&mut self, speaker: u8, id: Identifier, value: u16)
         ensures { self.new ≡ deliver limits self.old speaker id.0 value }
     {

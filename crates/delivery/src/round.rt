@@ -43,7 +43,7 @@ impl Round {
 
     // The identifier under which this round's opening or ballot is signed; 0, which is none, where
     // the number is no round. No option: a call takes any identifier, and 0 has its answer (a rule of the project).
-    #[tactic(auto, using(crate::proofs::Rules::rules_round_round_identifier), unfolding(crate::specs::Rounds::identifier_of, crate::specs::Rounds::phase_of))]
+    #[tactic(auto, using(crate::proofs::RoundLaws::within), unfolding(crate::specs::Rounds::identifier_of, crate::specs::Rounds::phase_of))]
     pub fn identifier(self, phase: Phase) -> Identifier
         ensures { result.0 ≡ identifier_of limits phase self.0 }
     {

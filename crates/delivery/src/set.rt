@@ -53,7 +53,7 @@ impl BoardSet {
     }
 
     // Board k alone; no board where k has no bit.
-    #[tactic(auto, using(crate::proofs::Rules::rules_set_boardset_alone))]
+    #[tactic(auto, using(crate::proofs::SetLaws::single))]
     fn alone(k: u8) -> BoardSet
         ensures { result ≡ with_board 0 k }
     {
@@ -64,7 +64,7 @@ impl BoardSet {
     }
 
     // Whether board k is in the set.
-    #[tactic(auto, using(crate::proofs::Rules::rules_set_boardset_contains))]
+    #[tactic(auto, using(crate::proofs::SetLaws::containing))]
     pub fn contains(self, k: u8) -> bool
         ensures { result ≡ in_set self k }
     {
@@ -72,7 +72,7 @@ impl BoardSet {
     }
 
     // Puts board k in.
-    #[tactic(auto, using(crate::proofs::Rules::rules_set_boardset_insert))]
+    #[tactic(auto, using(crate::proofs::SetLaws::changing))]
     pub fn insert(&mut self, k: u8)
         ensures { self.new ≡ with_board self.old k }
     {
@@ -80,7 +80,7 @@ impl BoardSet {
     }
 
     // Takes board k out.
-    #[tactic(auto, using(crate::proofs::Rules::rules_set_boardset_remove))]
+    #[tactic(auto, using(crate::proofs::SetLaws::changing))]
     pub fn remove(&mut self, k: u8)
         ensures { self.new ≡ without_board self.old k }
     {
@@ -88,7 +88,7 @@ impl BoardSet {
     }
 
     // The boards of either set.
-    #[tactic(auto, using(crate::proofs::Rules::rules_set_boardset_union))]
+    #[tactic(auto, using(crate::proofs::SetLaws::joining))]
     pub fn union(self, other: BoardSet) -> BoardSet
         ensures { result ≡ union self other }
     {
@@ -98,7 +98,7 @@ impl BoardSet {
     }
 
     // The boards of this set that are not in the other.
-    #[tactic(auto, using(crate::proofs::Rules::rules_set_boardset_minus))]
+    #[tactic(auto, using(crate::proofs::SetLaws::joining))]
     pub fn minus(self, other: BoardSet) -> BoardSet
         ensures { result ≡ minus self other }
     {
@@ -108,7 +108,7 @@ impl BoardSet {
     }
 
     // How many of boards 1 to n are in the set.
-    #[tactic(auto, using(crate::proofs::Rules::rules_set_boardset_count))]
+    #[tactic(auto, using(crate::proofs::SetLaws::counting))]
     pub fn count(self, n: u8) -> u8
         ensures { result ≡ count_in n (in_set self) }
     {
