@@ -5,7 +5,7 @@ use mathlib.Core.Bool.{true}
 use lib.ListN.{length, get_or}
 use lib.Dec.{eqb}
 use native.Mathlib.Omega.{arith}
-use Rattle.signer.proofs.FromOneLaws.{nth-any, within_low, within-high, nth-set-same, nth-set-other, nth-replicate}
+use Rattle.signer.proofs.FromOneLaws.{nth-any, nth-none, set_nth-index, set_nth-none, within_low, within-high, within-out, nth-set-same, nth-set-other, nth-replicate}
 use Rattle.signer.specs.Signer.{fresh_signer, sign}
 use Rattle.delivery.specs.Limits.{Limits}
 use Rattle.delivery.specs.Bus.{is_board}
@@ -17,6 +17,9 @@ use Rattle.bench.specs.Benches.{board_at, signer_at, holds}
 use Rattle.bench.specs.Effects.{with_board_at, with_signature}
 use Rattle.bench.specs.Setups.{bench_of}
 use Rattle.bench.specs.declared.bench.Bench.{Bench}
+
+-- a board, or a signer, changed in its place
+pub ruleset places = (set_nth-none, set_nth-index, nth-any, within-high, within_low, within-out)
 
 module _ (L : Limits) (c : Bench) where
   -- board k is the one that was put there

@@ -1,7 +1,6 @@
 -- What is claimed of every list of events is shown in Demands. Before it, in the order in which they rest on one another: laws
 -- of the machine, of histories, of one accepted event, of what is read off the bench after it, and of every list of events.
--- After it, that the table's two texts say the same (AppliesLaws), and those of the call for a fresh bench (MakingLaws); and
--- the rules by which private calls are proved.
+-- After it, that the table's two texts say the same (AppliesLaws), and those of the call for a fresh bench (MakingLaws).
 pub mod TableLaws
 pub mod TurnLaws
 pub mod EffectLaws
@@ -27,4 +26,3 @@ pub mod OutsetLaws
 pub mod Demands
 pub mod AppliesLaws
 pub mod MakingLaws
-pub mod Rules

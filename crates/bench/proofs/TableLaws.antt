@@ -11,7 +11,7 @@ use borrow.Author.Tests.{eq-eqb}
 use Rattle.signer.specs.FromOne.{is_within}
 use Rattle.signer.proofs.ConditionalLaws.{if-false, if-elim}
 use Rattle.delivery.specs.Tests.{◌or◌, neg}
-use Rattle.delivery.proofs.TestLaws.{and-under, or_left, or-false-left, or-false-right, neg-no, neg-in, neg-false, fails}
+use Rattle.delivery.proofs.TestLaws.{and-under, and-yes-left, and-no-left, and-no-right, or_left, or_right, or_no, or-no-left, or-no-right, or-false-left, or-false-right, neg-no, neg-in, neg-false, fails}
 use Rattle.signer.proofs.FromOneLaws.{within_low, within-high, within_in}
 use Rattle.bench.specs.Events.{turning, delivering, signing, kind_number, kind_of, uses_other}
 use Rattle.bench.specs.Table.{kind_row, boards_row, start_row, end_row, first_of, event_rows, state_rows, turn_rows, check_of}
@@ -46,6 +46,9 @@ pub not_same : (a b : Bool) → a ≡ b → not a ≡ neg b
 unfolding neg
 not_same true b h = ap neg h
 not_same false b h = ap neg h
+
+-- tests joined, as the rows join them
+pub ruleset joined_tests = (and-yes-left, and-no-left, and-no-right, or_left, or_right, or_no, or-no-left, or-no-right, neg-no, neg-in, not_same)
 
 -- a delivery names another board
 pub delivers-other : (k : ℕ) → k ≡ delivering → uses_other k ≡ true
@@ -162,6 +165,9 @@ kind-stops e r h =
       neg-in _ (fails _ (λ w. none.1 (within_low signing e.kind w) (within-high signing e.kind w))),
       none.0,
     )
+
+-- a kind, told from its number
+pub ruleset told_kinds = (kind-known, kind-passes, kind-stops)
 
 -- what the table gives where a row before row 22 stops the event, and where none of them does; k is the event with its
 -- kind told
