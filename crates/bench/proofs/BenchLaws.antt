@@ -4,7 +4,7 @@ use mathlib.Core.Path.{◌≡◌, ap, ◌∙◌}
 use lib.ListN.{length, get_or}
 use lib.Dec.{eqb}
 use native.Mathlib.Omega.{arith}
-use Rattle.signer.proofs.FromOneLaws.{nth-any, nth-replicate}
+use Rattle.signer.proofs.FromOneLaws.{nth-any, nth-none, set_nth-index, set_nth-none, within_low, within-high, within-out, nth-replicate}
 use Rattle.signer.specs.Signer.{fresh_signer}
 use Rattle.delivery.specs.Limits.{Limits}
 use Rattle.delivery.specs.Delivered.{heard}
@@ -14,6 +14,9 @@ use Rattle.vote.specs.declared.board.Board.{Board}
 use Rattle.bench.specs.Benches.{board_at, signer_at, holds}
 use Rattle.bench.specs.Setups.{bench_of}
 use Rattle.bench.specs.declared.bench.Bench.{Bench}
+
+-- a board, or a signer, changed in its place
+pub ruleset places = (set_nth-none, set_nth-index, nth-any, within-high, within_low, within-out)
 
 -- whether the board at index k has delivered a statement
 pub holds-at : (L : Limits) (c : Bench) (s i k : ℕ) (d : Board) → k < length c.boards

@@ -33,4 +33,3 @@ pub mod OutsetLaws
 pub mod Demands
 pub mod AppliesLaws
 pub mod MakingLaws
-pub mod Rules

@@ -7,7 +7,7 @@ use mathlib.Core.List.{List, [], ◌∷◌, ◌++◌}
 use native.Mathlib.Omega.{arith}
 use Rattle.std.proofs.lemmas.Bool.Decides.{nat_tests}
 use Rattle.delivery.specs.Tests.{◌and◌, ◌or◌, neg}
-use Rattle.delivery.proofs.TestLaws.{neg-no, neg-in, fails}
+use Rattle.delivery.proofs.TestLaws.{and-yes-left, and-no-left, and-no-right, or_left, or_right, or_no, or-no-left, or-no-right, neg-no, neg-in, fails}
 use Rattle.signer.proofs.FromOneLaws.{within_low, within-high, within_in}
 use Rattle.bench.specs.Events.{turning, signing, kind_number, kind_of}
 use Rattle.bench.specs.Table.{kind_row, start_row, end_row, first_of, event_rows, state_rows, turn_rows, check_of}
@@ -27,6 +27,9 @@ pub not_same : (a b : Bool) → a ≡ b → not a ≡ neg b
 unfolding neg
 not_same true b h = ap neg h
 not_same false b h = ap neg h
+
+-- tests joined, as the rows join them
+pub ruleset joined_tests = (and-yes-left, and-no-left, and-no-right, or_left, or_right, or_no, or-no-left, or-no-right, neg-no, neg-in, not_same)
 
 -- some rows, and then others, give what the first of the former gives; and where none of these applies, what the others
 -- give
@@ -79,6 +82,9 @@ kind-stops e r h =
       neg-in _ (fails _ (λ w. none.1 (within_low signing e.kind w) (within-high signing e.kind w))),
       none.0,
     )
+
+-- a kind, told from its number
+pub ruleset told_kinds = (kind-known, kind-passes, kind-stops)
 
 -- what the table gives where a row before row 22 stops the event, and where none of them does; k is the event with its
 -- kind told

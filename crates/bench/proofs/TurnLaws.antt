@@ -52,3 +52,8 @@ pub saying-board : (L : Limits) (c : Bench) (k : ℕ) (x : Option Statement) (j 
 unfolding board_at after_saying with_owed with_signature
 saying-board L c k None j = refl
 saying-board L c k (Some s) j = refl
+
+-- what the calls of a turn go by: row 22, and the turn that is taken
+pub ruleset waiting = (wait-waits, wait-refuses, wait-neither)
+
+pub ruleset turn_taken = (saying-board, turn-made)

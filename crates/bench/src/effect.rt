@@ -50,7 +50,7 @@ impl Known {
 impl Bench {
     // Changes board k; nothing changes where the number is no board's. By index, here and for a signer, for the
     // reason that stands at `from_one::set_nth`.
-    #[tactic(auto, using(crate::proofs::Rules::rules_places), unfolding(crate::specs::Benches::board_at, crate::specs::Effects::with_board_at))]
+    #[tactic(auto, using(crate::proofs::BenchLaws::places), unfolding(crate::specs::Benches::board_at, crate::specs::Effects::with_board_at))]
     fn change<F: FnOnce(&mut Board)>(&mut self, k: u8, change: F)
         requires { F.IsAlwaysCallable change }
         ensures { (f : Board → Board) → ((b : Board) → FnOnceReturnsAtMut F.FnOnce change (board_at limits self.old k) tt b → b ≡ f (board_at limits self.old k)) → self.new ≡ with_board_at self.old k (f (board_at limits self.old k)) }
@@ -61,7 +61,7 @@ impl Bench {
     }
 
     // Board k's signer is asked to sign a value under an identifier; nobody is where the number is no board's.
-    #[tactic(auto, using(crate::proofs::Rules::rules_places), unfolding(crate::specs::Effects::with_signature, crate::specs::Benches::signer_at))]
+    #[tactic(auto, using(crate::proofs::BenchLaws::places), unfolding(crate::specs::Effects::with_signature, crate::specs::Benches::signer_at))]
     fn sign(&mut self, k: u8, id: Identifier, value: u16)
         ensures { self.new ≡ with_signature limits self.old k id.0 value }
     {
@@ -90,7 +90,7 @@ impl Bench {
     }
 
     // Board k, which is voting, takes its turn; nothing changes where it waits, or its signer refuses what it says.
-    #[tactic(auto, using(crate::proofs::Rules::rules_bench_bench_turn))]
+    #[tactic(auto, using(crate::proofs::TurnLaws::turn_taken))]
     fn turn(&mut self, k: u8) -> Result<(), Refusal>
         requires { IsVoting limits self.old k }
         ensures answer { result ≡ (if must_wait limits self.old k then Err MustWait else Ok tt) }
@@ -114,7 +114,7 @@ impl Bench {
     }
 
     // What an event does that none of rows 10 to 21 applies to; row 22 refuses a turn.
-    #[tactic(auto, using(crate::proofs::Rules::rules_tests), unfolding(crate::specs::Effects::effect_of, crate::specs::Table::turn_row, crate::specs::Events::kind_number, crate::specs::Table::first_of))]
+    #[tactic(auto, using(crate::proofs::TableLaws::joined_tests), unfolding(crate::specs::Effects::effect_of, crate::specs::Table::turn_row, crate::specs::Events::kind_number, crate::specs::Table::first_of))]
     fn effect(&mut self, e: &Known) -> Result<(), Refusal>
         requires { e.now.kind ≡ turning → IsVoting limits self.old e.now.a }
         ensures answer { result ≡ first_of (turn_rows limits self.old e.now) }
