@@ -15,7 +15,6 @@ use vote::number_of;
 impl Words<'_> {
     // Plays so many events, and puts a row for each. By index: `count` says how many are played of a part that may be longer,
     // so its pieces would be no plainer.
-    #[tactic(auto, using(crate::proofs::TraceLaws::rows_put))]
     fn rows(&mut self, bench: &mut Bench, count: usize, events: &[u8])
         requires events { event_bytes * count ≤ length events.now }
         requires room { self.old.length + row_size limits * count ≤ length self.old.out.now }

@@ -3,17 +3,12 @@ use Prim.Native.Nat.{ℕ, ◌+◌}
 use mathlib.Core.Path.{◌≡◌, ap, subst, ◌∙◌}
 use mathlib.Core.List.{List, [], ◌++◌}
 use lib.ListN.{take}
-use Rattle.std.specs.Prelude.{IfSome, OnOk, Option, None, Some, Result, Ok, Err}
+use Rattle.std.specs.Prelude.{IfSome, Option, None, Some}
 use Rattle.std.specs.Option.{option_map}
 use Rattle.std.specs.Io.KnownBytes.{Appends}
 use Rattle.delivery.specs.Limits.{limits}
 use Rattle.schedule.specs.Files.{file_due, longest_file}
 use Rattle.schedule.proofs.PrefixLaws.{enough-read}
-
--- what follows where a result is Ok
-pub on_ok : {A E : Type 0} (r : Result A E) {P Q : Type 0} → (P → Q) → OnOk r P → OnOk r Q
-on_ok (Ok x) f p = f p
-on_ok (Err e) f p = tt
 
 -- So of what a reader had left, if that is known, everything holds that is so of each file that means what was copied.
 pub whole-read : (told known : Option (List ℕ)) (old items : List ℕ) (limit : ℕ)

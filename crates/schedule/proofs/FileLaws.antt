@@ -87,7 +87,11 @@ module _ (n h l : ℕ) (ms bs : List ℕ) (f : Marked n ms) (few : counted h l �
         low = l;
         rest = bs;
         due = let d = file-due n ms f (h ∷ l ∷ bs) in grind (arith, nat_tests);
-        holds = record { boards = within_in limits.boards (length ms) (omega (arith, f)) (omega (arith, f)); marks = marks-are ms f.front.marks; few = omega (arith, length-events (high_first h l) bs) };
+        holds = record {
+          boards = within_in limits.boards (length ms) (omega (arith, f)) (omega (arith, f));
+          marks = marks-are ms f.front.marks;
+          few = omega (arith, length-events (high_first h l) bs);
+        };
         whole = ap (λ (k : ℕ). k ∷ ms ++ h ∷ l ∷ bs) (sym f.full);
         count = sym (length-events (high_first h l) bs);
         size = omega (arith, length-events (high_first h l) bs);

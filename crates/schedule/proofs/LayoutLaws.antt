@@ -61,8 +61,11 @@ pub file-read : (f : Contents) → Holdable limits f → file_due limits (laid f
 unfolding laid
 file-read f h =
     let k = length f.events in
-    let m : Marked (length f.marks) f.marks = record { front = record { one = within_low limits.boards (length f.marks) h.boards; seven = within-high limits.boards (length f.marks) h.boards; marks = marks-of f.marks h.marks }; full = refl } in
-    let r = file-taken (length f.marks) (k / 256) (k % 256) f.marks (flat_map event_laid f.events) m (omega (arith, h.few)) (omega (arith, length-laid f.events)) in
+    let n = length f.marks in
+    let one = within_low limits.boards n h.boards in
+    let seven = within-high limits.boards n h.boards in
+    let m : Marked n f.marks = record { front = record { one = one; seven = seven; marks = marks-of f.marks h.marks }; full = refl } in
+    let r = file-taken n (k / 256) (k % 256) f.marks (flat_map event_laid f.events) m (omega (arith, h.few)) (omega (arith, length-laid f.events)) in
     rw (append_assoc f.marks (two_bytes k) (flat_map event_laid f.events)) (rw (two-read k, events-laid f.events) at r.due)
 
 -- and one that was read is laid out as the file

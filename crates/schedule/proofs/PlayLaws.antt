@@ -73,9 +73,13 @@ module _ (bs : List ℕ) (f : Contents) (r : FileRead bs f) where
       let k = length f.events in
       let c = first_bench limits f in
       let written = written (answers_to limits c f.events) buf in
-      let same : event_lines k written ≡ event_lines k (answers_to limits c f.events) =
-      parts_same k _ _ (λ j l h. ap (event_line j) (nth-written (answers_to limits c f.events) buf j l (omega (arith, length-answers limits c f.events)))) in
-      rw (events-part, take_all (event_bytes * k) r.rest (omega (arith, r.size)), r.due, played-answers limits n (padded limits f.marks) k r.rest r.size buf fits, played-bench limits n (padded limits f.marks) k r.rest r.size (length buf) fits, begun, r.events, same)
+      let answers = answers_to limits c f.events in
+      let bench = played-bench limits n (padded limits f.marks) k r.rest r.size (length buf) fits in
+      let told = played-answers limits n (padded limits f.marks) k r.rest r.size buf fits in
+      let same : event_lines k written ≡ event_lines k answers =
+      parts_same k _ _ (λ j l h. ap (event_line j) (nth-written answers buf j l (omega (arith, length-answers limits c f.events)))) in
+      let whole = take_all (event_bytes * k) r.rest (omega (arith, r.size)) in
+      rw (events-part, whole, r.due, told, bench, begun, r.events, same)
 
 -- The same of what the call that reads a file hands back:
 module _ (bs : List ℕ) (s : Schedule) (e : schedule_of limits bs ≡ Ok s) where

@@ -7,7 +7,7 @@ use mir.Syntax.{w8, w16}
 use mir.Val.{Fits}
 use denote.Ref.{MutBor}
 use borrow.Author.Tests.{lt-ltb, le-ltb, le-leb}
-use mathlib.Core.Path.{◌≡◌, refl, sym, ap, ◌∙◌}
+use mathlib.Core.Path.{◌≡◌, refl, sym, ◌∙◌}
 use mathlib.Core.List.{List, [], ◌∷◌, ◌++◌, append_assoc}
 use lib.ListN.{length, take, drop, get_or, set, length-append}
 use Rattle.std.proofs.lemmas.Bool.Decides.{nat_tests}
@@ -18,7 +18,6 @@ use lib.Seq.{sets, length-sets, sets-eq, take-append_seam}
 use Rattle.std.specs.Prelude.{Ok, Err}
 use Rattle.signer.proofs.ConditionalLaws.{if-true, if-false}
 use Rattle.delivery.specs.Limits.{limits}
-use Rattle.bench.specs.Runs.{written}
 use Rattle.bench.specs.declared.show.Shown.{Shown}
 use Rattle.bench.proofs.RunLaws.{sets-written}
 use Rattle.schedule.specs.Files.{most_events, fault_number}
@@ -42,7 +41,6 @@ use Rattle.schedule.specs.declared.report.TooShort.{TooShort}
 use Rattle.schedule.proofs.FaultLaws.{fault-row}
 
 infixr 4 ◌then◌
-
 -- writing one text and then another is writing both as one
 sets-append : (xs ys buf : List ℕ) (at : ℕ) → sets (sets buf at xs) (at + length xs) ys ≡ sets buf at (xs ++ ys)
 sets-append [] ys buf at = rw add-zero

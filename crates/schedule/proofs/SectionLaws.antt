@@ -56,19 +56,20 @@ mark-of (suc zero) h = faulty
 mark-of (suc (suc m)) h = absurd (omega arith)
 
 -- Marks are read one by one: of n, those that are there may be too few, or be followed by a byte that is none, or be all.
-pub marks-cut : (n : ℕ) (ms : List ℕ) → All Mark ms → length ms < n → marks_due n ms ≡ fault EndsEarly
+pub marks-cut : (n : ℕ) (ms : List ℕ) → All Mark ms → length ms < n → many_due mark_due n ms ≡ fault EndsEarly
 unfolding many_due mark_due byte_due next
 marks-cut zero ms a h = absurd (omega arith)
 marks-cut (suc n) [] none h = refl
 marks-cut (suc n) (m ∷ ms) (more a all) h = rw (mark-is m a, marks-cut n ms all (omega arith))
 
-pub marks-wrong : (n m : ℕ) (ms bs : List ℕ) → All Mark ms → length ms < n → 1 < m → marks_due n (ms ++ m ∷ bs) ≡ fault NoMark
+pub marks-wrong : (n m : ℕ) (ms bs : List ℕ) → All Mark ms → length ms < n → 1 < m
+    → many_due mark_due n (ms ++ m ∷ bs) ≡ fault NoMark
 unfolding many_due mark_due byte_due next
 marks-wrong zero m ms bs a h w = absurd (omega arith)
 marks-wrong (suc n) m [] bs none h w = rw (lt-leb m 1 w)
 marks-wrong (suc n) m (k ∷ ms) bs (more a all) h w = rw (mark-is k a, marks-wrong n m ms bs all (omega arith) w)
 
-pub marks-full : (ms bs : List ℕ) → All Mark ms → marks_due (length ms) (ms ++ bs) ≡ got ms bs
+pub marks-full : (ms bs : List ℕ) → All Mark ms → many_due mark_due (length ms) (ms ++ bs) ≡ got ms bs
 unfolding many_due mark_due byte_due next
 marks-full [] bs none = refl
 marks-full (m ∷ ms) bs (more a all) = rw (mark-is m a, marks-full ms bs all)

@@ -1,14 +1,15 @@
 -- `run` meets its contract: what was copied means what the whole file does. Assumes nothing.
 use mathlib.Core.Path.{ap, subst, ◌∙◌}
 use Rattle.std.specs.Io.KnownBytes.{Appends}
+use Rattle.std.proofs.lemmas.Result.{on_ok_weaker}
 use Rattle.delivery.specs.Limits.{limits}
 use Rattle.schedule.specs.Prints.{printed_from, printed}
-use Rattle.play.proofs.RunLaws.{on_ok, whole-read}
+use Rattle.play.proofs.RunLaws.{whole-read}
 use Rattle.play.proofs.run.Goals as goal
 
 pub returns-clause-written : goal.returns-clause-written
 returns-clause-written g c =
-    on_ok
+    on_ok_weaker
     c.write_all.result
     (λ bytes.
     whole-read

@@ -2,14 +2,11 @@
 -- the events are its trace. Assumes nothing.
 use native.Mathlib.Omega.{arith}
 use mathlib.Core.Path.{◌≡◌, sym, ap, ◌∙◌}
-use mathlib.Core.List.{[]}
-use lib.ListN.{length}
 use borrow.Author.Rules.{part_to_end}
 use Rattle.delivery.specs.Limits.{limits}
 use Rattle.bench.specs.Setups.{fresh_bench}
 use Rattle.bench.specs.declared.fresh.Fresh.{Fresh}
 use Rattle.bench.proofs.SetupLaws.{fresh-bench}
-use Rattle.schedule.specs.Prints.{buffer_from}
 use Rattle.schedule.specs.Private.{PutAt}
 use Rattle.std.proofs.Common.{rules}
 use Rattle.schedule.proofs.PrintLaws.{put-none, put_then, put_size, buffer-short, buffer-written}
@@ -20,26 +17,21 @@ use Rattle.fenderacai.proofs.trace.write.Goals as goal
 
 pub returns-in_default-clause-buffer : goal.returns-in_default-clause-buffer
 returns-in_default-clause-buffer c =
-    let none : traced limits c.args.file.now ≡ [] = refused-traced c.args.file.now c.in_default.field-0 (sym c.read.ensures.meaning ∙ c.in_default.is) in
-    rw none (buffer-written (omega arith) put-none)
+    rw (refused-traced _ c.in_default.field-0 (sym c.read.ensures.meaning ∙ c.in_default.is)) (buffer-written (omega arith) put-none)
 
 pub returns-then-length-out-clause-length : goal.returns-then-length-out-clause-length
-returns-then-length-out-clause-length c =
-    sym (length-traced _ _ (sym c.read.ensures.meaning ∙ c.in-Ok.is))
+returns-then-length-out-clause-length c = sym (length-traced _ _ (sym c.read.ensures.meaning ∙ c.in-Ok.is))
 
 pub returns-then-length-out-clause-buffer : goal.returns-then-length-out-clause-buffer
 returns-then-length-out-clause-buffer c =
-    let bs = c.args.file.now in
-    let l = length-traced bs c.in-Ok.field-0 (sym c.read.ensures.meaning ∙ c.in-Ok.is) in
-    buffer-short (traced limits bs) c.args.out.now (omega (arith, l, c.if-length-out.true))
+    let l = length-traced _ _ (sym c.read.ensures.meaning ∙ c.in-Ok.is) in
+    buffer-short _ c.args.out.now (omega (arith, l, c.if-length-out.true))
 
 pub rows-requires : goal.rows-requires
 rows-requires c =
-    let bs = c.args.file.now in
     let s = c.in-Ok.field-0 in
-    let read = sym c.read.ensures.meaning ∙ c.in-Ok.is in
     record {
-      events = omega (arith, ap length (part_to_end bs s.start), events-fit bs s read);
+      events = rw part_to_end (events-fit _ s (sym c.read.ensures.meaning ∙ c.in-Ok.is));
       room = omega (arith, put_size c.row.ensures.text, length-row c.fresh-bench.result.bench 0, c.if-length-out.false);
     }
 
@@ -49,9 +41,11 @@ returns c =
     let bs = c.args.file.now in
     let s = c.in-Ok.field-0 in
     let read = sym c.read.ensures.meaning ∙ c.in-Ok.is in
-    let begun : c.fresh-bench.result.bench ≡ fresh_bench limits s.bus.n s.bus.marks = ap (λ (x : Fresh). x.bench) c.fresh-bench.ensures ∙ fresh-bench limits s.bus.n s.bus.marks in
+    let begun : c.fresh-bench.result.bench ≡ fresh_bench limits s.bus.n s.bus.marks =
+    ap (λ (x : Fresh). x.bench) c.fresh-bench.ensures ∙ fresh-bench limits s.bus.n s.bus.marks in
+    let rows = put_then c.row.ensures.text (rw (part_to_end bs s.start) at c.rows.ensures.text) in
     let text : PutAt (traced limits bs) c.args.out.now 0 c.rows.new.self.out.now c.rows.new.self.length =
-    rw (← trace-played bs s read) (put_then (rw begun at c.row.ensures.text) (rw (begun, part_to_end bs s.start) at c.rows.ensures.text)) in
+    rw (← trace-played bs s read) (rw begun at rows) in
     let l = length-traced bs s read in
-    let written : c.rows.new.self.out.now ≡ buffer_from (traced limits bs) c.args.out.now = buffer-written (omega (arith, l, c.if-length-out.false)) text in
-    record { length = omega (arith, text.place); buffer = search rules }
+    let written = buffer-written (omega (arith, l, c.if-length-out.false)) text in
+    record { length = omega (arith, text.place); buffer = search (rules, written) }
