@@ -22,8 +22,8 @@ module _ (L : Limits) (S : Setup) (t : ℕ → Standing) (e : Event) where
   DecidesNow k r v = Sound L S k × (Announces e k r v ⊎ TurnDecides L S (t k) e k r v)
 
 -- a history with one entry more says what it said, and what the entry adds if it was answered 0
-module _ (L : Limits) (S : Setup) (H : History) (t : ℕ → Standing) (stands :
-    (k : ℕ) → standing_after L S.n k H ≡ t k) (x : Entry) where
+module _ (L : Limits) (S : Setup) (H : History) (t : ℕ → Standing)
+    (stands : (k : ℕ) → standing_after L S.n k H ≡ t k) (x : Entry) where
   pub signed-more : (k i v : ℕ)
       → Signed L S (H then x) k i v ↔ (Signed L S H k i v ⊎ ((x.answer ≡ 0) × SignsNow L S t x.event k i v))
   signed-more k i v =

@@ -68,11 +68,7 @@ marks-none marks = reads-every 0 _ (λ k l h. absurd (omega arith))
 pub marks-next : (i : ℕ) (marks : List ℕ) → every_in i (is_mark_at marks) ≡ true → is_mark (nth marks (i + 1) 0) ≡ true
     → every_in (i + 1) (is_mark_at marks) ≡ true
 unfolding is_mark_at
-marks-next i marks h g = reads-every (i + 1) _ (λ k l u. go k l u (dec_le k i))
-  where
-    go : (k : ℕ) → 1 ≤ k → k ≤ i + 1 → Dec (k ≤ i) → is_mark (nth marks k 0) ≡ true
-    go k l u (yes b) = every-reads i _ h k l b
-    go k l u (no b) = let e : k ≡ i + 1 = omega arith in ap (λ (j : ℕ). is_mark (nth marks j 0)) e ∙ g
+marks-next i marks h g = reads-every (i + 1) _ (λ k l u. let r = every-reads i _ h k l in grind arith)
 
 pub marks-fail : (n i : ℕ) (marks : List ℕ) → i < n → is_mark (nth marks (i + 1) 0) ≡ false
     → every_in n (is_mark_at marks) ≡ false
