@@ -10,7 +10,6 @@ use Rattle.signer.specs.Log.{is_identifier, entry_of}
 use Rattle.signer.specs.Signer.{grants}
 use Rattle.signer.proofs.FromOneLaws.{within_low, within-high}
 use Rattle.signer.proofs.SignerLaws.{grants-above}
-use Rattle.delivery.specs.Tests.{◌and◌, ◌or◌, neg}
 use Rattle.delivery.specs.Limits.{Limits}
 use Rattle.vote.specs.Turns.{turn}
 use Rattle.vote.specs.declared.board.Status.TheVariants.{Idle, Voting}
@@ -66,7 +65,7 @@ pub record Accepted (L : Limits) (c : Bench) (e : Event) : Type 0 where
 
 module _ (L : Limits) (c : Bench) (e : Event) (p : Passed L c e) where
   pub passed-accepted : Accepted L c e
-  unfolding kind_row boards_row fields_row wrong_id wrong_value mark_row start_row end_row signed_row last_row delivered_row ballots_row turn_row uses_other must_wait refuses ◌and◌ ◌or◌ neg
+  unfolding kind_row boards_row fields_row wrong_id wrong_value mark_row start_row end_row signed_row last_row delivered_row ballots_row turn_row uses_other must_wait refuses
   passed-accepted =
       record {
         low = within_low signing e.kind (grind (arith, nat_tests));

@@ -7,7 +7,6 @@ use mathlib.Core.List.{List, [], ◌∷◌}
 use mathlib.Core.Logic.{◌⊎◌, inl, inr, ◌↔◌}
 use Rattle.std.proofs.lemmas.Bool.Decides.{nat_tests}
 use Rattle.signer.proofs.FromOneLaws.{within_low, within-high, within_in}
-use Rattle.delivery.specs.Tests.{◌and◌, ◌or◌, neg}
 use Rattle.delivery.specs.Limits.{limits}
 use Rattle.vote.proofs.StatusLaws.{unstarted-idle, idle-unstarted, decided-some, decided-decided, ended-some, ended-decided, ended-spent, has-decided, decided-has}
 use Rattle.vote.specs.Turns.{turn_number}
@@ -50,7 +49,7 @@ lowest A m ((false, r) ∷ _) (s next rows) = grind (arith, lowest A (suc m) _ r
 
 -- only a board that is voting has to wait in its turn
 must-vote : (c : Bench) (k : ℕ) → must_wait limits c k ≡ true → (board_at limits c k).status ≡ Voting
-unfolding must_wait is_waiting refuses ◌or◌
+unfolding must_wait is_waiting refuses
 must-vote c k = grind (arith, turn-idle, turn-ended, ended-spent, ended-decided)
 
 row_16-is : turn_number Ended ≡ 16
@@ -68,7 +67,6 @@ module _ (c : Bench) (e : Event) where
   says : Says (Applies c e) 10 (table_of limits c e)
   unfolding refusal_number kind_row boards_row fields_row wrong_other wrong_id wrong_value mark_row pair_row start_row
       end_row signed_row last_row delivered_row announcer_row ballots_row turn_row refuses uses_other uses_id uses_value
-      ◌and◌ ◌or◌ neg
   says =
       (refl, grind (tests, no-kind), grind tests)
       next (refl, grind (tests, no-board, no-other), grind tests)

@@ -1,14 +1,13 @@
 -- Laws of a bench's boards and signers, each read back after a change. Assumes nothing.
+use Rattle.std.specs.Prelude.{◌==◌, not}
 use Prim.Native.Nat.{ℕ, ◌+◌, ◌-◌, ◌<◌}
 use mathlib.Core.Path.{◌≡◌, ap, ◌∙◌}
 use lib.ListN.{length, get_or}
-use lib.Dec.{eqb}
 use native.Mathlib.Omega.{arith}
 use Rattle.signer.proofs.FromOneLaws.{nth-any, nth-none, set_nth-index, set_nth-none, within_low, within-high, within-out, nth-replicate}
 use Rattle.signer.specs.Signer.{fresh_signer}
 use Rattle.delivery.specs.Limits.{Limits}
 use Rattle.delivery.specs.Delivered.{heard}
-use Rattle.delivery.specs.Tests.{neg}
 use Rattle.vote.specs.Boards.{fresh_board}
 use Rattle.vote.specs.declared.board.Board.{Board}
 use Rattle.bench.specs.Benches.{board_at, signer_at, holds}
@@ -20,12 +19,12 @@ pub ruleset places = (set_nth-none, set_nth-index, nth-any, within-high, within_
 
 -- whether the board at index k has delivered a statement
 pub holds-at : (L : Limits) (c : Bench) (s i k : ℕ) (d : Board) → k < length c.boards
-    → holds L c s i (k + 1) ≡ neg (eqb (heard L (get_or c.boards k d).delivered s i) 0)
+    → holds L c s i (k + 1) ≡ not ((heard L (get_or c.boards k d).delivered s i) == 0)
 unfolding holds board_at
 holds-at L c s i k d h =
     let e : k + 1 - 1 ≡ k = omega arith in
     ap
-    (λ (b : Board). neg (eqb (heard L b.delivered s i) 0))
+    (λ (b : Board). not (heard L b.delivered s i == 0))
     (nth-any c.boards (k + 1) (fresh_board L) d (omega arith) (omega arith) ∙ ap (λ (j : ℕ). get_or c.boards j d) e)
 
 -- on a bench on which nothing has happened, every board and every signer is a fresh one

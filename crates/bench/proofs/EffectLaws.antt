@@ -4,7 +4,7 @@ use Prim.Native.Nat.{ℕ, ◌≤◌}
 use native.Mathlib.Omega.{arith}
 use mathlib.Core.Path.{◌≡◌, refl, ap, ◌∙◌}
 use lib.ListN.{length}
-use Rattle.std.specs.Prelude.{if◌then◌else◌, eqb, Option, None, Some}
+use Rattle.std.specs.Prelude.{if◌then◌else◌, Option, None, Some, ◌==◌}
 use Rattle.std.proofs.lemmas.Bool.Decides.{nat_tests}
 use Rattle.signer.specs.Signer.{sign}
 use Rattle.signer.specs.declared.signer.Signer.{Signer}
@@ -31,11 +31,11 @@ use Rattle.bench.proofs.AcceptedLaws.{Accepted}
 -- the call that an event is
 unfoldable pub call_of : Event → Call
 call_of e =
-    if eqb e.kind proposing then proposal e.value
-    else if eqb e.kind turning then own_turn
-    else if eqb e.kind delivering then delivery (brought e)
-    else if eqb e.kind announcing then announcement e.id e.value
-    else if eqb e.kind suspecting then suspicion e.b
+    if e.kind == proposing then proposal e.value
+    else if e.kind == turning then own_turn
+    else if e.kind == delivering then delivery (brought e)
+    else if e.kind == announcing then announcement e.id e.value
+    else if e.kind == suspecting then suspicion e.b
     else restored-trust e.b
 
 module _ (L : Limits) (c : Bench) (e : Event) where
@@ -71,17 +71,17 @@ module _ (L : Limits) (c : Bench) (e : Event) where
 
   -- its board then, and that this is as it was or as a call has made it
   unfoldable pub board_then : Board
-  board_then = if eqb e.kind signing then b else called L c.n e.a b (call_of e)
+  board_then = if e.kind == signing then b else called L c.n e.a b (call_of e)
 
   pub each-board : (P : Board → Type 0) → P b → ((x : Call) → P (called L c.n e.a b x)) → P board_then
   unfolding board_then
-  each-board P p q = if-elim P (eqb e.kind signing) _ _ (λ t. p) (λ t. q (call_of e))
+  each-board P p q = if-elim P (e.kind == signing) _ _ (λ t. p) (λ t. q (call_of e))
 
   -- what its signer is asked to sign, and the signer then
   unfoldable pub said_then : Option Statement
   said_then =
-      if eqb e.kind turning then (turn L c.n e.a b).signed
-      else if eqb e.kind signing then Some (record { speaker = e.a; id = record { 0 = e.id }; value = e.value })
+      if e.kind == turning then (turn L c.n e.a b).signed
+      else if e.kind == signing then Some (record { speaker = e.a; id = record { 0 = e.id }; value = e.value })
       else None
 
   unfoldable pub asked_for : Signer → Option Statement → Signer

@@ -1,11 +1,11 @@
 -- What holds of every bench that was played from a fresh one, as far as it can be said of the bench alone. Assumes nothing.
+use Rattle.std.specs.Prelude.{◌==◌}
 use Prim.Native.Nat.{ℕ, ◌≤◌, ◌-◌, ◌*◌}
 use native.Mathlib.Omega.{arith}
 use mathlib.Core.Path.{◌≡◌}
 use mathlib.Core.Bool.{true, false}
 use mathlib.Core.Logic.{◌⊎◌, inl, inr, ⊎_elim}
 use borrow.Author.Tests.{eqb-true, eqb-false}
-use lib.Dec.{eqb}
 use lib.ListN.{length}
 use Rattle.signer.specs.FromOne.{is_within}
 use Rattle.signer.proofs.FromOneLaws.{within_low, within-high, within_in}
@@ -28,7 +28,7 @@ use Rattle.bench.proofs.SpreadLaws.{Spread}
 
 -- two numbers are the same or not
 pub same_or_not : (j k : ℕ) → (j ≡ k) ⊎ (j ≡ k → ⊥)
-same_or_not j k = ⊎_elim (λ t. inl (eqb-true j k t)) (λ f. inr (eqb-false j k f)) (decided (eqb j k))
+same_or_not j k = ⊎_elim (λ t. inl (eqb-true j k t)) (λ f. inr (eqb-false j k f)) (decided (j == k))
 
 -- the limits have room, and the boards of a bus are within them
 pub record Ground (L : Limits) (S : Setup) : Type 0 where

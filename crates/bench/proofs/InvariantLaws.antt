@@ -5,8 +5,7 @@ use native.Mathlib.Decide.{ℕ_discrete}
 use mathlib.Core.Path.{◌≡◌, refl, sym, ap, subst⁻¹, ◌∙◌, fun_ext}
 use mathlib.Core.Bool.{true, false}
 use mathlib.Core.Logic.{◌⊎◌, ⊎_elim}
-use lib.Dec.{eqb}
-use Rattle.std.specs.Prelude.{if◌then◌else◌, Option, None, Some, IfSome}
+use Rattle.std.specs.Prelude.{if◌then◌else◌, Option, None, Some, IfSome, ◌==◌, not}
 use Rattle.std.proofs.lemmas.Bool.Decides.{nat_tests}
 use Rattle.std.proofs.lemmas.Option.{none-some}
 use Rattle.signer.specs.Signer.{grants}
@@ -15,7 +14,6 @@ use Rattle.signer.proofs.SignerLaws.{WellFormed, sign-last, sign-wellformed}
 use Rattle.delivery.specs.Limits.{Limits}
 use Rattle.delivery.specs.Sets.{in_set, bits}
 use Rattle.delivery.specs.declared.owed.Owed.{Owed}
-use Rattle.delivery.specs.Tests.{◌and◌, neg}
 use Rattle.delivery.proofs.SetLaws.{in-set_of-within}
 use Rattle.delivery.proofs.OwedLaws.{Whole, after-signing-whole, after-delivery-whole}
 use Rattle.vote.specs.Boards.{fresh_board}
@@ -58,13 +56,13 @@ module _ {L : Limits} {c : Bench} (g : Ground L (setup_of c)) (f : Fit L (setup_
   heard-then k s i = ap (λ (V : View). (V.stands k).heard s i) (square g f acc)
 
   range : (s i k : ℕ) → is_sound c k ≡ true
-      → (1 ≤ k) × (k ≤ bits) × (in_set (holders L c s i) k ≡ neg (eqb (heard_by L c k s i) 0))
+      → (1 ≤ k) × (k ≤ bits) × (in_set (holders L c s i) k ≡ not (heard_by L c k s i == 0))
   unfolding holders holds
   range s i k t =
       let w = is-there g k (g.members k t) in
       let l = within_low L.boards k w in
       let h = within-high L.boards k w in
-      (l, omega (arith, g.bits-enough), in-set_of-within L.boards (λ (j : ℕ). neg (eqb (heard_by L c j s i) 0)) k l h)
+      (l, omega (arith, g.bits-enough), in-set_of-within L.boards (λ (j : ℕ). not (heard_by L c j s i == 0)) k l h)
 
   -- an event of which nobody hears anything, a delivery, and a turn
   unheard : ((k s i : ℕ) → heard_by L c' k s i ≡ heard_by L c k s i) → Spread L c.sound c.owed (heard_by L c')
@@ -79,7 +77,7 @@ module _ {L : Limits} {c : Bench} (g : Ground L (setup_of c)) (f : Fit L (setup_
       (unheard (λ k s i. heard-then k s i ∙ grind (arith, nat_tests)))
 
   hears : e.kind ≡ delivering → Spread L c.sound c'.owed (heard_by L c')
-  unfolding put believing hearing ◌and◌
+  unfolding put believing hearing
   hears m =
       subst⁻¹
       (λ (o : Owed). Spread L c.sound o (heard_by L c'))
@@ -97,7 +95,7 @@ module _ {L : Limits} {c : Bench} (g : Ground L (setup_of c)) (f : Fit L (setup_
       f.spread)
 
   turns : e.kind ≡ turning → Spread L c.sound c'.owed (heard_by L c')
-  unfolding put believing hearing hearing_said owed_saying ◌and◌
+  unfolding put believing hearing hearing_said owed_saying
   turns m =
       subst⁻¹
       (λ (o : Owed). Spread L c.sound o (heard_by L c'))
@@ -105,7 +103,7 @@ module _ {L : Limits} {c : Bench} (g : Ground L (setup_of c)) (f : Fit L (setup_
       (go (turn L c.n e.a b).signed refl (says-new g f acc m))
     where
       heard-said : (k s i : ℕ) → heard_by L c' k s i
-          ≡ (if eqb k e.a then hearing_said (heard_by L c k) (turn L c.n e.a b).signed s i else heard_by L c k s i)
+          ≡ (if k == e.a then hearing_said (heard_by L c k) (turn L c.n e.a b).signed s i else heard_by L c k s i)
       heard-said k s i =
           let z = heard-then k s i in
           let y = turn-says L c.n e.a b (acc.voting m) in

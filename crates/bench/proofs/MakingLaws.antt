@@ -5,10 +5,9 @@ use mathlib.Core.Path.{◌≡◌, refl, sym, ap, ◌∙◌}
 use mathlib.Core.Bool.{true, false}
 use mathlib.Core.List.{List, [], ◌∷◌}
 use mathlib.Core.Logic.{◌⊎◌, inl, inr, ⊎_elim, ◌↔◌}
-use lib.Dec.{eqb}
 use borrow.Author.Tests.{eq-eqb, leb-true, leb-false}
 use Rattle.delivery.proofs.TestLaws.{decided}
-use Rattle.std.specs.Prelude.{Result, Ok, Err}
+use Rattle.std.specs.Prelude.{Result, Ok, Err, ◌==◌}
 use Rattle.std.proofs.lemmas.Bool.Decides.{nat_tests}
 use Rattle.std.proofs.lemmas.List.{get_or-take}
 use Rattle.signer.proofs.FromOneLaws.{nth-index, nth_after, within_low, within-high, within_in}
@@ -123,7 +122,7 @@ module _ (n : ℕ) (marks rest : List ℕ) (same : (k : ℕ) → 1 ≤ k → k �
 
   same-set : set_of n (is_marked_sound marks) ≡ set_of n (is_marked_sound rest)
   unfolding is_marked_sound
-  same-set = set-cong n _ _ (λ k l u. ap (λ (m : ℕ). eqb m 0) (same k l u))
+  same-set = set-cong n _ _ (λ k l u. ap (λ (m : ℕ). m == 0) (same k l u))
 
   unread : fresh_of limits n marks ≡ fresh_of limits n rest
   unfolding fresh_of fresh_bench setup_by

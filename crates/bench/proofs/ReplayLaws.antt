@@ -5,10 +5,9 @@ use native.Mathlib.Omega.{arith}
 use mathlib.Core.Path.{◌≡◌, sym, ◌∙◌}
 use mathlib.Core.Bool.{false}
 use mathlib.Core.Logic.{◌⊎◌, inl, inr, ⊎_elim, ◌↔◌}
-use Rattle.std.specs.Prelude.{if◌then◌else◌, eqb, IfSome}
+use Rattle.std.specs.Prelude.{if◌then◌else◌, IfSome, ◌==◌}
 use Rattle.std.proofs.lemmas.Bool.Decides.{nat_tests}
 use Rattle.signer.specs.Log.{entry_of}
-use Rattle.delivery.specs.Tests.{◌and◌}
 use Rattle.delivery.specs.Limits.{Limits}
 use Rattle.delivery.specs.Delivered.{Store}
 use Rattle.vote.specs.Boards.{decision_of, is_decided}
@@ -32,15 +31,15 @@ module _ (L : Limits) (S : Setup) (V : View) (e : Event) where
   -- on the board that it is for, and on what is signed
   unfoldable pub status_then : Status
   status_then =
-      if eqb e.kind proposing then Voting
-      else if eqb e.kind turning then status_after t.position.round.0 (move_of L S.n e.a t)
-      else if eqb e.kind announcing then Decided (decision_of e.id e.value)
+      if e.kind == proposing then Voting
+      else if e.kind == turning then status_after t.position.round.0 (move_of L S.n e.a t)
+      else if e.kind == announcing then Decided (decision_of e.id e.value)
       else V.status e.a
 
   unfoldable pub signed_then : Store
   signed_then =
-      if eqb e.kind turning then hearing_said V.signed (saying L S.n e.a t)
-      else if eqb e.kind signing then hearing V.signed e.a e.id e.value
+      if e.kind == turning then hearing_said V.signed (saying L S.n e.a t)
+      else if e.kind == signing then hearing V.signed e.a e.id e.value
       else V.signed
 
   abbrev pub replay : View
@@ -84,12 +83,12 @@ module _ {L : Limits} {S : Setup} {V : View} {e : Event} (w : Lawful L S V e) (f
 
   pub replay-signs : (k i v : ℕ)
       → (V'.signed k i ≡ entry_of v) ↔ ((V.signed k i ≡ entry_of v) ⊎ SignsNow L S V.stands e k i v)
-  unfolding signed_then hearing hearing_said ◌and◌
+  unfolding signed_then hearing hearing_said
   replay-signs k i v = (grind (arith, nat_tests), grind (arith, nat_tests))
 
   pub replay-delivers : (k s i v : ℕ) → ((V'.stands k).heard s i ≡ entry_of v)
       ↔ (((V.stands k).heard s i ≡ entry_of v) ⊎ DeliversNow L S V.stands e k s i v)
-  unfolding put believing hearing hearing_said ◌and◌
+  unfolding put believing hearing hearing_said
   replay-delivers k s i v = (grind (arith, nat_tests), grind (arith, nat_tests))
 
   pub replay-decides : (k r v : ℕ) → (Sound L S k × (V'.status k ≡ Decided (decision_of r v)))
@@ -103,5 +102,5 @@ module _ {L : Limits} {S : Setup} {V : View} {e : Event} (w : Lawful L S V e) (f
       (grind (arith, nat_tests), grind (arith, nat_tests))
 
   pub replay-sane : Sane L S V'
-  unfolding put believing signed_then hearing hearing_said ◌and◌
+  unfolding put believing signed_then hearing hearing_said
   replay-sane = record { part = λ k s i. grind (arith, nat_tests); own = λ k i t. grind (arith, nat_tests) }

@@ -5,9 +5,8 @@ use native.Mathlib.Omega.{arith}
 use mathlib.Core.Path.{◌≡◌, refl, sym, ap, ◌∙◌, fun_ext}
 use mathlib.Core.Bool.{Bool, true, false, true≢false}
 use mathlib.Core.List.{List}
-use lib.Dec.{eqb}
 use Rattle.signer.specs.FromOne.{is_within, nth}
-use Rattle.std.specs.Prelude.{Result, Ok, Err}
+use Rattle.std.specs.Prelude.{Result, Ok, Err, ◌==◌}
 use Rattle.signer.proofs.ConditionalLaws.{if-true}
 use Rattle.signer.proofs.FromOneLaws.{within_low, within-high, within_in, within-out}
 use Rattle.delivery.specs.Limits.{Limits, limits}
@@ -46,7 +45,7 @@ module _ (ms rs : List ℕ) (e : (k : ℕ) → nth ms k 0 ≡ nth rs k 0) where
 
   sound-alike : is_marked_sound ms ≡ is_marked_sound rs
   unfolding is_marked_sound
-  sound-alike = fun_ext (λ k. ap (λ (m : ℕ). eqb m 0) (e k))
+  sound-alike = fun_ext (λ k. ap (λ (m : ℕ). m == 0) (e k))
 
   setup-alike : (a : Result (Unit {0}) SetupFault) (n : ℕ) → setup_by a n ms ≡ setup_by a n rs
   unfolding setup_by

@@ -1,15 +1,14 @@
 -- Copies are owed to the sound boards that lack a statement which a sound board has; and they are so once a board hears
 -- a statement that is new to it. No bench is looked at. Assumes nothing.
+use Rattle.std.specs.Prelude.{◌==◌, not}
 use Prim.Native.Nat.{ℕ, ◌≤◌}
 use native.Mathlib.Omega.{arith}
 use native.Mathlib.Decide.{ℕ_discrete}
 use mathlib.Core.Path.{◌≡◌, refl, subst, ◌∙◌, fun_ext}
 use mathlib.Core.Bool.{true, false}
 use mathlib.Core.Logic.{◌⊎◌, inr, ⊎_elim, ◌↔◌}
-use lib.Dec.{eqb}
 use Rattle.std.proofs.lemmas.Bool.Decides.{nat_tests}
 use Rattle.signer.specs.Log.{is_identifier}
-use Rattle.delivery.specs.Tests.{neg}
 use Rattle.delivery.specs.Limits.{Limits}
 use Rattle.delivery.specs.Bus.{is_board}
 use Rattle.delivery.specs.Sets.{in_set, bits}
@@ -37,7 +36,7 @@ Spread L sound o h = (k s i : ℕ) → (in_set (receivers L o s i) k ≡ true) �
 -- `have` are the boards that had heard it.
 pub record Heard (sound a s i have : ℕ) (h h' : ℕ → Store) : Type 0 where
   pub a-sound : in_set sound a ≡ true
-  pub range : (k : ℕ) → in_set sound k ≡ true → (1 ≤ k) × (k ≤ bits) × (in_set have k ≡ neg (eqb (h k s i) 0))
+  pub range : (k : ℕ) → in_set sound k ≡ true → (1 ≤ k) × (k ≤ bits) × (in_set have k ≡ not (h k s i == 0))
   pub only : (k s' i' : ℕ) → (h' k s' i' ≡ h k s' i') ⊎ ((k ≡ a) × (s' ≡ s) × (i' ≡ i))
   pub new : h' a s i ≡ 0 → ⊥
 
@@ -65,7 +64,6 @@ module _ {L : Limits} {o : Owed} {sound a s i have : ℕ} {h h' : ℕ → Store}
   )
 
   wants-lacked : (k : ℕ) → Wants L o s i sound have w b d k ↔ Lacked k
-  unfolding neg
   wants-lacked k = (
     λ t. ⊎_elim (λ r. let l = (old k s i).0 r in (l.is-sound, l.other, l.not-heard)) lacks t.2,
     λ l.
@@ -73,7 +71,7 @@ module _ {L : Limits} {o : Owed} {sound a s i have : ℕ} {h h' : ℕ → Store}
         (r.0, r.1, inr (record { is-sound = l.0; other = l.1; has-not = r.2 ∙ rw l.2 none })),
   )
     where
-      none : neg (eqb 0 0) ≡ false
+      none : not (0 == 0) ≡ false
       none = refl
 
       lacks : Lacks sound have s k → Lacked k

@@ -4,14 +4,12 @@ use native.Mathlib.Omega.{arith}
 use mathlib.Core.Path.{◌≡◌, ap, subst, ◌∙◌, fun_ext}
 use mathlib.Core.Bool.{true}
 use lib.ListN.{length}
-use Rattle.std.specs.Prelude.{if◌then◌else◌, eqb, Option, None, Some, IfSome}
+use Rattle.std.specs.Prelude.{if◌then◌else◌, Option, None, Some, IfSome, ◌==◌}
 use Rattle.std.proofs.lemmas.Bool.Decides.{nat_tests}
 use Rattle.std.proofs.lemmas.Option.{IfSome_then}
 use Rattle.signer.specs.Signer.{grants}
 use Rattle.signer.proofs.FromOneLaws.{within-high}
-use Rattle.signer.proofs.SignerLaws.{WellFormed, grants-only}
-use Rattle.signer.proofs.GrantLaws.{granted-entry, granted-new}
-use Rattle.delivery.specs.Tests.{◌and◌}
+use Rattle.signer.proofs.SignerLaws.{WellFormed, grants-only, granted-entry, granted-new}
 use Rattle.delivery.specs.Limits.{Limits}
 use Rattle.delivery.specs.Delivered.{heard}
 use Rattle.delivery.specs.declared.delivered.Delivered.{Delivered}
@@ -58,7 +56,7 @@ module _ {L : Limits} {c : Bench} {e : Event} (acc : Accepted L c e) where
   unfolding call_of
   taken n = grind (arith, nat_tests, idle-unstarted)
 
-  left-then : board_then L c e ≡ (if eqb e.kind signing then b else left L c.n e.a b (call_of e))
+  left-then : board_then L c e ≡ (if e.kind == signing then b else left L c.n e.a b (call_of e))
   unfolding board_then
   left-then = grind (arith, nat_tests, taken, taken-leaves)
 
@@ -77,7 +75,7 @@ module _ {L : Limits} {c : Bench} {e : Event} (acc : Accepted L c e) where
 
   signed-now : WellFormed L.identifiers (signer_at L c e.a) → e.a ≤ length c.signers → (k i : ℕ)
       → signed_by L (c' L c e) k i ≡ signed_then L (setup_of c) (view L c) e k i
-  unfolding signed_by signed_then asked_for said_then hearing hearing_said put ◌and◌
+  unfolding signed_by signed_then asked_for said_then hearing hearing_said put
   signed-now f h k i =
       let now = signers-then acc h k in
       let says = turn-says L c.n e.a b in

@@ -6,7 +6,6 @@ use mathlib.Core.Bool.{Bool, true, false, not}
 use mathlib.Core.List.{List, [], ◌∷◌, ◌++◌}
 use native.Mathlib.Omega.{arith}
 use Rattle.std.proofs.lemmas.Bool.Decides.{nat_tests}
-use Rattle.delivery.specs.Tests.{◌and◌, ◌or◌, neg}
 use Rattle.delivery.proofs.TestLaws.{and-yes-left, and-no-left, and-no-right, or_left, or_right, or_no, or-no-left, or-no-right, neg-no, neg-in, fails}
 use Rattle.signer.proofs.FromOneLaws.{within_low, within-high, within_in}
 use Rattle.bench.specs.Events.{turning, signing, kind_number, kind_of}
@@ -23,10 +22,9 @@ use Rattle.bench.specs.declared.answer.Refusal.TheVariants.{NoKind}
 use Rattle.delivery.specs.Limits.{Limits}
 
 -- what the code negates is the word "not" of the same test
-pub not_same : (a b : Bool) → a ≡ b → not a ≡ neg b
-unfolding neg
-not_same true b h = ap neg h
-not_same false b h = ap neg h
+pub not_same : (a b : Bool) → a ≡ b → not a ≡ not b
+not_same true b h = ap not h
+not_same false b h = ap not h
 
 -- tests joined, as the rows join them
 pub ruleset joined_tests = (and-yes-left, and-no-left, and-no-right, or_left, or_right, or_no, or-no-left, or-no-right, neg-no, neg-in, not_same)
@@ -49,7 +47,7 @@ rows-pass ((false, a) ∷ xs) ys u h = rows-pass xs ys u h
 pub state-voting : (L : Limits) (c : Bench) (e : Event) (u : Unit {0}) → first_of (state_rows L c e) ≡ Ok u
     → e.kind ≡ turning
     → (board_at L c e.a).status ≡ Voting
-unfolding first_of start_row end_row ◌and◌ ◌or◌ neg
+unfolding first_of start_row end_row
 state-voting L c e u h k =
     let start : start_row L c e ≡ false = grind (arith, h) in
     let end : end_row L c e ≡ false = grind (arith, h) in

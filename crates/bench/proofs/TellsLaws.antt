@@ -5,7 +5,6 @@ use mathlib.Core.Path.{◌≡◌, refl, ◌∙◌}
 use mathlib.Core.Logic.{◌⊎◌, inl, inr, ⊎_elim, ◌↔◌}
 use Rattle.std.proofs.lemmas.Bool.Decides.{nat_tests}
 use Rattle.std.specs.Prelude.{if◌then◌else◌}
-use Rattle.delivery.specs.Tests.{◌and◌}
 use Rattle.signer.specs.Log.{entry_of}
 use Rattle.delivery.specs.Limits.{Limits}
 use Rattle.vote.specs.Boards.{decision_of}
@@ -39,7 +38,7 @@ same m n z = (λ p. ⊎_elim z.0 (λ b. absurd (n b.0)) (m.0 p), λ c. m.1 (inl 
 module _ {L : Limits} {S : Setup} {H : History} {V : View} (y : Tells L S H V) where
   -- so it does with a refused event more, on the same view, and with an accepted one, on the view where that is replayed
   pub tells-refused : (x : Entry) → (x.answer ≡ 0 → ⊥) → Tells L S (H then x) V
-  unfolding after_entry ◌and◌
+  unfolding after_entry
   tells-refused x n =
       record {
         stands = λ k. standing-last L S.n k H x ∙ grind (arith, nat_tests, y.stands k);
@@ -50,7 +49,7 @@ module _ {L : Limits} {S : Setup} {H : History} {V : View} (y : Tells L S H V) w
 
   module _ {e : Event} (w : Lawful L S V e) (f : Sane L S V) where
     tells-accepted-stands : (k : ℕ) → standing_after L S.n k (H then accepted e) ≡ (replay L S V e).stands k
-    unfolding after_entry put ◌and◌
+    unfolding after_entry put
     tells-accepted-stands k = standing-last L S.n k H (accepted e) ∙ grind (arith, nat_tests, y.stands k)
 
     abbrev x : Entry

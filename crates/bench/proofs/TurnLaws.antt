@@ -3,7 +3,6 @@ use Prim.Native.Nat.{ℕ}
 use native.Mathlib.Omega.{arith}
 use mathlib.Core.Path.{◌≡◌, refl, ap}
 use mathlib.Core.Bool.{true, false}
-use Rattle.delivery.specs.Tests.{◌or◌}
 use Rattle.vote.specs.declared.statement.Statement.{Statement}
 use Rattle.std.specs.Prelude.{Option, None, Some}
 use Rattle.delivery.specs.Limits.{Limits}
@@ -34,16 +33,16 @@ module _ (L : Limits) (c : Bench) (k : ℕ) (v : (board_at L c k).status ≡ Vot
 
   -- row 22 applies where the board waits, or its signer refuses what it says, and in no other case
   pub wait-waits : move_at L c k ≡ Waits → must_wait L c k ≡ true
-  unfolding must_wait is_waiting ◌or◌
+  unfolding must_wait is_waiting
   wait-waits i = let t = turn-waits L c.n k me i v in grind arith
 
   pub wait-refuses : refuses L (signer_at L c k) (said_at L c k) ≡ true → must_wait L c k ≡ true
-  unfolding must_wait ◌or◌
+  unfolding must_wait
   wait-refuses h = let t = took in grind arith
 
   pub wait-neither : (move_at L c k ≡ Waits → ⊥) → refuses L (signer_at L c k) (said_at L c k) ≡ false
       → must_wait L c k ≡ false
-  unfolding must_wait is_waiting ◌or◌
+  unfolding must_wait is_waiting
   wait-neither f h = let t = took in let d = answer-done (move_at L c k) f in grind arith
 
 -- what a board says in its turn leaves the boards as they were

@@ -3,7 +3,7 @@ use Prim.Native.Nat.{ℕ}
 use native.Mathlib.Omega.{arith}
 use mathlib.Core.Path.{◌≡◌}
 use mathlib.Core.Logic.{◌⊎◌}
-use Rattle.std.specs.Prelude.{if◌then◌else◌, eqb}
+use Rattle.std.specs.Prelude.{if◌then◌else◌, ◌==◌}
 use Rattle.std.proofs.lemmas.Bool.Decides.{nat_tests}
 use Rattle.delivery.specs.Limits.{Limits}
 use Rattle.delivery.specs.Delivered.{Store, heard}
@@ -36,7 +36,7 @@ setup_of c = record { n = c.n; sound = c.sound }
 
 -- one place of a function changed
 unfoldable pub put : {A : Type 0} → (ℕ → A) → ℕ → A → ℕ → A
-put f a x k = if eqb k a then x else f k
+put f a x k = if k == a then x else f k
 
 -- what is read off the places of one is read off those of the other
 pub put-map : {A B : Type 0} (r : A → B) (f g : ℕ → A) (a : ℕ) (x : A) (y : B) → ((k : ℕ) → g k ≡ put f a x k) → r x ≡ y

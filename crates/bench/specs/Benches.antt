@@ -1,11 +1,10 @@
 -- Document 01, "Events": what a bench holds. It has n boards, the set of those that are sound, for each a signer, and the
 -- copies that are owed.
-use Rattle.std.specs.Prelude.{ℕ, Bool, Option, eqb}
+use Rattle.std.specs.Prelude.{ℕ, Bool, Option, ◌==◌, not}
 use Rattle.signer.specs.FromOne.{nth}
 use Rattle.signer.specs.Log.{entry_at}
 use Rattle.signer.specs.Signer.{fresh_signer}
 use Rattle.signer.specs.declared.signer.Signer.{Signer}
-use Rattle.delivery.specs.Tests.{neg}
 use Rattle.delivery.specs.Limits.{Limits}
 use Rattle.delivery.specs.Sets.{in_set, set_of}
 use Rattle.delivery.specs.Delivered.{Store, heard}
@@ -43,7 +42,7 @@ signed_by L c s i = entry_at (signer_at L c s).log i
 
 -- whether board k has delivered what s said under i, and the boards that have
 unfoldable pub holds : Limits → Bench → ℕ → ℕ → ℕ → Bool
-holds L c s i k = neg (eqb (heard_by L c k s i) 0)
+holds L c s i k = not (heard_by L c k s i == 0)
 
 unfoldable pub holders : Limits → Bench → ℕ → ℕ → ℕ
 holders L c s i = set_of L.boards (holds L c s i)

@@ -1,5 +1,5 @@
 -- Document 01, "Events": what an accepted event does, and an event as a whole.
-use Rattle.std.specs.Prelude.{ℕ, eqb, if◌then◌else◌, Option, None, Some}
+use Rattle.std.specs.Prelude.{ℕ, if◌then◌else◌, Option, None, Some, ◌==◌}
 use Rattle.signer.specs.FromOne.{set_nth}
 use Rattle.signer.specs.Signer.{sign}
 use Rattle.delivery.specs.Limits.{Limits}
@@ -59,12 +59,12 @@ brought e = record { speaker = e.b; id = record { 0 = e.id }; value = e.value }
 unfoldable pub effect_of : Limits → Bench → Event → Bench
 effect_of L c e =
     let board = board_at L c e.a in
-    if eqb e.kind proposing then with_board_at c e.a (propose board e.value)
-    else if eqb e.kind turning then after_turn L c e.a
-    else if eqb e.kind delivering then after_hearing L c e.a (brought e)
-    else if eqb e.kind announcing then with_board_at c e.a (announce L c.n board e.id e.value)
-    else if eqb e.kind suspecting then with_board_at c e.a (suspect board e.b)
-    else if eqb e.kind trusting then with_board_at c e.a (trust board e.b)
+    if e.kind == proposing then with_board_at c e.a (propose board e.value)
+    else if e.kind == turning then after_turn L c e.a
+    else if e.kind == delivering then after_hearing L c e.a (brought e)
+    else if e.kind == announcing then with_board_at c e.a (announce L c.n board e.id e.value)
+    else if e.kind == suspecting then with_board_at c e.a (suspect board e.b)
+    else if e.kind == trusting then with_board_at c e.a (trust board e.b)
     else with_signature L c e.a e.id e.value
 
 -- One event: the answer that the table gives, and the bench afterwards. A refused event leaves it as it was.

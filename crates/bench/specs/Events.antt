@@ -1,7 +1,6 @@
 -- Document 01, "Events" and "Schedule file and program": the kinds of events, the fields that each uses, and an event's
 -- bytes.
-use Rattle.std.specs.Prelude.{ℕ, ◌+◌, ◌*◌, Bool, List, Result, Ok, Err, eqb, slice_index, if◌then◌else◌}
-use Rattle.delivery.specs.Tests.{◌or◌}
+use Rattle.std.specs.Prelude.{ℕ, ◌+◌, ◌*◌, Bool, List, Result, Ok, Err, slice_index, if◌then◌else◌, ◌==◌, ◌||◌}
 use Rattle.bench.specs.declared.answer.Refusal.{Refusal}
 use Rattle.bench.specs.declared.answer.Refusal.TheVariants.{NoKind}
 use Rattle.bench.specs.declared.event.Event.{Event}
@@ -42,27 +41,27 @@ kind_number Sign = signing
 -- the kind that a number stands for
 unfoldable pub kind_of : ℕ → Result Kind Refusal
 kind_of k =
-    if eqb k proposing then Ok Propose
-    else if eqb k turning then Ok Turn
-    else if eqb k delivering then Ok Deliver
-    else if eqb k announcing then Ok Announce
-    else if eqb k suspecting then Ok Suspect
-    else if eqb k trusting then Ok Trust
-    else if eqb k signing then Ok Sign
+    if k == proposing then Ok Propose
+    else if k == turning then Ok Turn
+    else if k == delivering then Ok Deliver
+    else if k == announcing then Ok Announce
+    else if k == suspecting then Ok Suspect
+    else if k == trusting then Ok Trust
+    else if k == signing then Ok Sign
     else Err NoKind
 
 -- Every kind is about the board a. Some name another, b: the speaker of a statement, the announcer, or whom a suspects or
 -- trusts.
 unfoldable pub uses_other : ℕ → Bool
-uses_other k = eqb k delivering or eqb k announcing or eqb k suspecting or eqb k trusting
+uses_other k = k == delivering || k == announcing || k == suspecting || k == trusting
 
 -- some have an identifier, or the round of an announcement
 unfoldable pub uses_id : ℕ → Bool
-uses_id k = eqb k delivering or eqb k announcing or eqb k signing
+uses_id k = k == delivering || k == announcing || k == signing
 
 -- and some have a value
 unfoldable pub uses_value : ℕ → Bool
-uses_value k = eqb k proposing or uses_id k
+uses_value k = k == proposing || uses_id k
 
 -- a number in two bytes, the high one first
 abbrev pub high_first : ℕ → ℕ → ℕ

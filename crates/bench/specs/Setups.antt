@@ -1,5 +1,5 @@
 -- Document 01, "Where an event or file stops": the call for a fresh bench, from n and the marks of the boards.
-use Rattle.std.specs.Prelude.{ℕ, Bool, List, Result, Ok, Err, eqb, leb, replicate, if◌then◌else◌}
+use Rattle.std.specs.Prelude.{ℕ, Bool, List, Result, Ok, Err, replicate, if◌then◌else◌, ◌==◌, nat_le}
 use Rattle.signer.specs.FromOne.{nth}
 use Rattle.signer.specs.Signer.{fresh_signer}
 use Rattle.delivery.specs.Counting.{every_in}
@@ -15,13 +15,13 @@ use Rattle.bench.specs.declared.answer.SetupFault.TheVariants.{NoBus, NoMark}
 
 -- a mark is 0, sound, or 1, faulty; board k's is the k-th
 abbrev pub is_mark : ℕ → Bool
-is_mark m = leb m 1
+is_mark m = nat_le m 1
 
 unfoldable pub is_mark_at : List ℕ → ℕ → Bool
 is_mark_at marks k = is_mark (nth marks k 0)
 
 unfoldable pub is_marked_sound : List ℕ → ℕ → Bool
-is_marked_sound marks k = eqb (nth marks k 0) 0
+is_marked_sound marks k = nth marks k 0 == 0
 
 -- the answer to the call: n is looked at first, then the marks of boards 1 to n, and no others
 unfoldable pub fresh_answer : Limits → ℕ → List ℕ → Result (Unit {0}) SetupFault

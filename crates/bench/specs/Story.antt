@@ -1,8 +1,7 @@
 -- Document 01, "Events", on agreement: what a list of events and its answers says by itself. No bench is looked at, and
 -- no row of the table: every event that was answered 0 is believed, whatever its fields hold, and no other is.
-use Rattle.std.specs.Prelude.{ℕ, List, [], ◌∷◌, eqb, if◌then◌else◌, Option, None, Some}
+use Rattle.std.specs.Prelude.{ℕ, List, [], ◌∷◌, if◌then◌else◌, Option, None, Some, ◌==◌, ◌&&◌}
 use Rattle.signer.specs.Log.{entry_of}
-use Rattle.delivery.specs.Tests.{◌and◌}
 use Rattle.delivery.specs.Limits.{Limits}
 use Rattle.delivery.specs.Sets.{with_board, without_board}
 use Rattle.delivery.specs.Delivered.{Store}
@@ -39,7 +38,7 @@ outset = record { position = fresh_position; heard = λ (s i : ℕ). 0 }
 
 -- a statement is heard
 unfoldable pub hearing : Store → ℕ → ℕ → ℕ → Store
-hearing h s i v s' i' = if eqb s' s and eqb i' i then entry_of v else h s' i'
+hearing h s i v s' i' = if s' == s && i' == i then entry_of v else h s' i'
 
 unfoldable pub hearing_said : Store → Option Statement → Store
 hearing_said h None = h
@@ -58,21 +57,21 @@ module _ (L : Limits) (n k : ℕ) where
   -- trusts a board
   unfoldable pub believing : Standing → Event → Standing
   believing t e =
-      if eqb e.kind proposing
+      if e.kind == proposing
       then record t { position = starting_with t.position e.value }
-      else if eqb e.kind turning
+      else if e.kind == turning
       then record { position = position_after L (move_of t) t.position; heard = hearing_said t.heard (saying t) }
-      else if eqb e.kind delivering
+      else if e.kind == delivering
       then record t { heard = hearing t.heard e.b e.id e.value }
-      else if eqb e.kind suspecting
+      else if e.kind == suspecting
       then record t { position = with_suspected t.position (with_board t.position.suspected e.b) }
-      else if eqb e.kind trusting
+      else if e.kind == trusting
       then record t { position = with_suspected t.position (without_board t.position.suspected e.b) }
       else t
 
   -- where it stands after one entry of a history, after some, and after all of it
   unfoldable pub after_entry : Standing → Entry → Standing
-  after_entry t x = if eqb x.answer 0 and eqb x.event.a k then believing t x.event else t
+  after_entry t x = if x.answer == 0 && x.event.a == k then believing t x.event else t
 
   unfoldable pub after_entries : Standing → History → Standing
   after_entries t [] = t

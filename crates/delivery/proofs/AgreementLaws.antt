@@ -6,7 +6,6 @@ use native.Mathlib.Decide.{dec_lt, le_ind}
 use mathlib.Core.Path.{◌≡◌, sym}
 use mathlib.Core.Bool.{true}
 use Rattle.std.proofs.lemmas.Bool.Decides.{nat_tests}
-use Rattle.delivery.specs.Tests.{◌and◌, ◌or◌, neg}
 use Rattle.delivery.specs.Counting.{count_in}
 use Rattle.delivery.specs.Limits.{Limits}
 use Rattle.delivery.specs.Delivered.{Store}
@@ -19,7 +18,7 @@ use Rattle.delivery.proofs.OneRoundLaws.{entry, backing, by-counts, later-counts
 module _ (L : Limits) (n : ℕ) (h : Store) (some : 1 ≤ n) where
   -- what is allowed in a round was allowed in each round before it, from round 1 on
   allowed-was : (r r' w : ℕ) → 1 ≤ r → r ≤ r' → allowed L n h r' w ≡ true → allowed L n h r w ≡ true
-  unfolding by-counts accepts_opening opens ◌and◌ ◌or◌ neg
+  unfolding by-counts accepts_opening opens
   allowed-was r r' w low l =
       le_ind (λ (m : ℕ). allowed L n h m w ≡ true → allowed L n h r w ≡ true) (λ a. a) step r' l
     where
@@ -38,7 +37,7 @@ module _ (L : Limits) (n : ℕ) (h : Store) (some : 1 ≤ n) where
 
   -- and is the only value allowed in any later round
   pub later-only : (r v : ℕ) → Won L n h r v → (r' w : ℕ) → r < r' → allowed L n h r' w ≡ true → w ≡ v
-  unfolding allowed by-counts ◌and◌ ◌or◌ neg
+  unfolding allowed by-counts
   later-only zero v o r' w l a = grind (arith, (won-opened 0 v o).permitted)
   later-only (suc r) v o r' w l a =
       let t = allowed-was (suc r + 1) r' w (omega arith) (omega arith) a in

@@ -1,14 +1,13 @@
 -- Laws of what is allowed from round to round, and of what is accepted by it. Assumes nothing.
+use Rattle.std.specs.Prelude.{◌==◌, not}
 use Prim.Native.Nat.{ℕ, zero, suc, ◌+◌, ◌≤◌, ◌<◌}
 use native.Mathlib.Omega.{arith}
 use native.Mathlib.Numerals.{add-one}
 use mathlib.Core.Path.{◌≡◌, refl, ap}
 use mathlib.Core.Bool.{true, false}
 use mathlib.Core.Logic.{◌⊎◌}
-use lib.Dec.{eqb}
 use Rattle.std.proofs.lemmas.Bool.Decides.{nat_tests}
 use Rattle.signer.specs.Log.{entry_of}
-use Rattle.delivery.specs.Tests.{neg, ◌and◌, ◌or◌}
 use Rattle.delivery.specs.Limits.{Limits}
 use Rattle.delivery.specs.Delivered.{Store}
 use Rattle.delivery.specs.Acceptance.{says, opening_entry, ballot_entry, bears, opens, counts, counts_some, allowed_after, allowed, accepts_opening, accepts_ballot, accepts_some}
@@ -16,7 +15,7 @@ use Rattle.delivery.proofs.TestLaws.{and-yes-left, and-no-left, or-no-left, or_l
 
 module _ (L : Limits) (n : ℕ) (h : Store) where
   -- in round 1 every value is allowed, and in a later one what the one before leaves
-  pub allowed-first : (w : ℕ) → allowed L n h 1 w ≡ neg (eqb w 0)
+  pub allowed-first : (w : ℕ) → allowed L n h 1 w ≡ not (w == 0)
   unfolding allowed
   allowed-first w = refl
 
@@ -27,7 +26,7 @@ module _ (L : Limits) (n : ℕ) (h : Store) where
 
   -- the blank never
   pub allowed-blank : (r : ℕ) → allowed L n h r 0 ≡ false
-  unfolding allowed allowed_after neg ◌and◌
+  unfolding allowed allowed_after
   allowed-blank zero = refl
   allowed-blank (suc zero) = refl
   allowed-blank (suc (suc r)) = refl
@@ -41,11 +40,11 @@ module _ (L : Limits) (n : ℕ) (h : Store) (r : ℕ) where
     pub permitted : allowed L n h r w ≡ true
 
   pub opening-reads : (w : ℕ) → accepts_opening L n h r w ≡ true → Opens w
-  unfolding accepts_opening opens ◌and◌ neg
+  unfolding accepts_opening opens
   opening-reads w o = grind (arith, nat_tests)
 
   pub reads-opening : (w : ℕ) → Opens w → accepts_opening L n h r w ≡ true
-  unfolding accepts_opening opens ◌and◌ neg
+  unfolding accepts_opening opens
   reads-opening w o = grind (arith, nat_tests)
 
   pub one-opening : (v w : ℕ) → accepts_opening L n h r v ≡ true → accepts_opening L n h r w ≡ true → v ≡ w
@@ -57,11 +56,11 @@ module _ (L : Limits) (n : ℕ) (h : Store) (r : ℕ) where
     pub backed : (w ≡ 0) ⊎ (accepts_opening L n h r w ≡ true)
 
   pub ballot-reads : (s w : ℕ) → accepts_ballot L n h r s w ≡ true → Counts s w
-  unfolding accepts_ballot accepts_opening counts bears ◌and◌ ◌or◌
+  unfolding accepts_ballot accepts_opening counts bears
   ballot-reads s w b = grind (arith, nat_tests)
 
   pub reads-ballot : (s w : ℕ) → Counts s w → accepts_ballot L n h r s w ≡ true
-  unfolding accepts_ballot accepts_opening counts bears ◌and◌ ◌or◌
+  unfolding accepts_ballot accepts_opening counts bears
   reads-ballot s w b = grind (arith, nat_tests)
 
   pub ballot-needs : (s w : ℕ) → (w ≡ 0 → ⊥) → accepts_ballot L n h r s w ≡ true → accepts_opening L n h r w ≡ true
@@ -69,20 +68,20 @@ module _ (L : Limits) (n : ℕ) (h : Store) (r : ℕ) where
 
   pub ballot-sent : (s w : ℕ) → (w ≡ 0) ⊎ (accepts_opening L n h r w ≡ true)
       → accepts_ballot L n h r s w ≡ bears L h r w s
-  unfolding accepts_ballot accepts_opening counts bears ◌and◌ ◌or◌
+  unfolding accepts_ballot accepts_opening counts bears
   ballot-sent s w o = grind (arith, nat_tests)
 
   pub ballot-unopened : (s w : ℕ) → (w ≡ 0 → ⊥) → accepts_opening L n h r w ≡ false → accepts_ballot L n h r s w ≡ false
-  unfolding accepts_ballot accepts_opening counts ◌and◌ ◌or◌
+  unfolding accepts_ballot accepts_opening counts
   ballot-unopened s w z o = grind (arith, nat_tests)
 
   -- and from s, whatever it bears
   pub accepted-reads : (s : ℕ) → accepts_some L n h r s ≡ true → (w : ℕ) × (accepts_ballot L n h r s w ≡ true)
-  unfolding accepts_some accepts_ballot counts_some says counts bears ◌and◌ ◌or◌
+  unfolding accepts_some accepts_ballot counts_some says counts bears
   accepted-reads s b = grind (arith, nat_tests)
 
   pub reads-accepted : (s w : ℕ) → accepts_ballot L n h r s w ≡ true → accepts_some L n h r s ≡ true
-  unfolding accepts_some accepts_ballot counts_some says counts bears ◌and◌ ◌or◌
+  unfolding accepts_some accepts_ballot counts_some says counts bears
   reads-accepted s w b = grind (arith, nat_tests)
 
   -- the value of an entry of nothing or of the blank is not allowed

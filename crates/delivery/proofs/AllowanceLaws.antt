@@ -6,11 +6,9 @@ use native.Mathlib.Numerals.{add-one}
 use mathlib.Core.Path.{◌≡◌, refl, sym, ap, fun_ext, ◌∙◌}
 use mathlib.Core.Bool.{Bool, true}
 use mathlib.Core.Logic.{◌⊎◌}
-use lib.Dec.{leb}
-use Rattle.std.specs.Prelude.{if◌then◌else◌}
+use Rattle.std.specs.Prelude.{if◌then◌else◌, nat_le, ◌||◌}
 use Rattle.std.proofs.lemmas.Bool.Decides.{nat_tests}
 use Rattle.signer.specs.Log.{entry_of}
-use Rattle.delivery.specs.Tests.{◌and◌, ◌or◌, neg}
 use Rattle.delivery.specs.Counting.{plus, count_in, count_of, every_of, some_choice}
 use Rattle.delivery.specs.Limits.{Limits}
 use Rattle.delivery.specs.Bus.{quorum, overlap}
@@ -37,13 +35,13 @@ module _ (L : Limits) (n : ℕ) (h : Store) (r : ℕ) (some : 1 ≤ n) (low : 1 
         arith,
         enough,
         count-or n (bears L h r 0) (backs L h r (entry L n h r)),
-        count-cong n _ (λ (s : ℕ). bears L h r 0 s or backs L h r (entry L n h r) s) (λ s l u. some-either L n h r s),
+        count-cong n _ (λ (s : ℕ). bears L h r 0 s || backs L h r (entry L n h r) s) (λ s l u. some-either L n h r s),
       )
 
   -- a value that e or more of them bear is allowed in the next round
   pub borne-next : (w : ℕ) → (w ≡ 0 → ⊥) → overlap n ≤ count_in n (λ (s : ℕ). accepts_ballot L n h r s w)
       → allowed L n h (suc r) w ≡ true
-  unfolding by-counts ◌and◌ ◌or◌ neg
+  unfolding by-counts
   borne-next w z l =
       let s = find n (λ (s : ℕ). accepts_ballot L n h r s w) (omega (arith, l, overlap-pos n some)) in
       let o = ballot-needs L n h r s.0 w z s.3 in
@@ -53,7 +51,7 @@ module _ (L : Limits) (n : ℕ) (h : Store) (r : ℕ) (some : 1 ≤ n) (low : 1 
   -- and where no value has so many, one that is allowed in this round
   pub kept_next : (w : ℕ) → ((v : ℕ) → (v ≡ 0 → ⊥) → count_in n (λ (s : ℕ). accepts_ballot L n h r s v) < overlap n)
       → allowed L n h r w ≡ true → allowed L n h (suc r) w ≡ true
-  unfolding by-counts ◌and◌ ◌or◌ neg
+  unfolding by-counts
   kept_next w f a =
       let k = backing-few L n h r (λ (s : ℕ). true) (overlap n) (overlap-pos n some) f in
       rw next (grind (arith, nat_tests, voiced, k, allowed-blank L n h r))
@@ -62,9 +60,9 @@ module _ (L : Limits) (n : ℕ) (h : Store) (r : ℕ) (some : 1 ≤ n) (low : 1 
 -- counts
 settled : (a : Allowance) (q k x e b c w : ℕ) → 1 ≤ k → (e ≡ x) ⊎ ((e ≡ 0) × (c ≡ 0))
     → (e ≡ entry_of w → lets a w ≡ true)
-    → lets (if leb q (b + min c (k - 1)) then a else (if leb q (b + c) then Only x else Nothing)) w
+    → lets (if nat_le q (b + min c (k - 1)) then a else (if nat_le q (b + c) then Only x else Nothing)) w
     ≡ by-counts q k e b c w (lets a w)
-unfolding by-counts lets ◌and◌ ◌or◌ neg
+unfolding by-counts lets
 settled a q k x e b c w some s p = grind (arith, nat_tests)
 
 module _ (L : Limits) (n : ℕ) (h : Store) where
@@ -79,7 +77,7 @@ module _ (L : Limits) (n : ℕ) (h : Store) where
 
   -- and among no boards in each: no ballot is asked for
   nobody : (r w : ℕ) → (r ≡ 0 → ⊥) → allowed L 0 h r w ≡ lets Every w
-  unfolding allowed allowed_after some_choice every_of count_of lets ◌and◌ ◌or◌ neg
+  unfolding allowed allowed_after some_choice every_of count_of lets
   nobody zero w f = absurd (f refl)
   nobody (suc zero) w f = refl
   nobody (suc (suc r)) w f = grind (arith, nat_tests)
@@ -99,9 +97,9 @@ module _ (L : Limits) (n : ℕ) (h : Store) where
       → b ≡ count_in n (backs L h r (entry_of 0))
       → c ≡ (if says (opening_entry L n h r) (lets a) then count_in n (backs L h r (opening_entry L n h r)) else 0)
       → a'
-      ≡ (if leb (quorum n) (b + min c (overlap n - 1))
+      ≡ (if nat_le (quorum n) (b + min c (overlap n - 1))
       then a
-      else (if leb (quorum n) (b + c) then Only (opening_entry L n h r) else Nothing))
+      else (if nat_le (quorum n) (b + c) then Only (opening_entry L n h r) else Nothing))
       → lets a' ≡ allowed L n h (r + 1)
   unfolding entry says backs
   pass-turn a a' r b c f some low blanks backers left =

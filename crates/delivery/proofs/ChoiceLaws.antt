@@ -5,11 +5,9 @@ use mathlib.Core.Path.{◌≡◌, refl}
 use mathlib.Core.Bool.{Bool, true, false}
 use mathlib.Core.List.{List, [], ◌∷◌}
 use mathlib.Core.Logic.{⊎_elim}
-use lib.Dec.{eqb, leb}
 use lib.ListN.{length}
-use Rattle.std.specs.Prelude.{if◌then◌else◌}
+use Rattle.std.specs.Prelude.{if◌then◌else◌, ◌==◌, nat_le, ◌&&◌, ◌||◌, not}
 use Rattle.std.proofs.lemmas.Bool.Decides.{nat_tests}
-use Rattle.delivery.specs.Tests.{◌and◌, ◌or◌, neg}
 use Rattle.delivery.specs.Counting.{plus, count_in, count_of, every_in, every_of, some_choice}
 use Rattle.delivery.proofs.TestLaws.{or_cases}
 
@@ -25,13 +23,13 @@ picked-cong (suc n) p q h = grind (arith, h (suc n), picked-cong n p q (λ k l. 
 
 -- some choice passes exactly if the numbers of some test do
 pub picked-some : (n : ℕ) (t : List ℕ → Bool) (p : ℕ → Bool) → t (picked n p) ≡ true → some_choice n t ≡ true
-unfolding picked some_choice ◌or◌
+unfolding picked some_choice
 picked-some zero t p h = h
 picked-some (suc n) t p h = grind (arith, picked-some n t p, picked-some n (λ (ks : List ℕ). t (suc n ∷ ks)) p)
 
 -- a test with another answer at the number above n
 topped : ℕ → Bool → (ℕ → Bool) → ℕ → Bool
-topped n b p k = if eqb k (suc n) then b else p k
+topped n b p k = if k == suc n then b else p k
 
 picked-topped : (n : ℕ) (b : Bool) (p : ℕ → Bool)
     → picked (suc n) (topped n b p) ≡ (if b then suc n ∷ picked n p else picked n p)
@@ -53,28 +51,28 @@ unfolding picked count_in plus
 length-picked zero p = refl
 length-picked (suc n) p = grind (arith, length-picked n p)
 
-pub count-picked : (n : ℕ) (p q : ℕ → Bool) → count_of q (picked n p) ≡ count_in n (λ (k : ℕ). p k and q k)
-unfolding picked count_in count_of plus ◌and◌
+pub count-picked : (n : ℕ) (p q : ℕ → Bool) → count_of q (picked n p) ≡ count_in n (λ (k : ℕ). p k && q k)
+unfolding picked count_in count_of plus
 count-picked zero p q = refl
 count-picked (suc n) p q = grind (arith, count-picked n p q)
 
-pub every-picked : (n : ℕ) (p q : ℕ → Bool) → every_of q (picked n p) ≡ every_in n (λ (k : ℕ). neg (p k) or q k)
-unfolding picked every_in every_of ◌and◌ ◌or◌ neg
+pub every-picked : (n : ℕ) (p q : ℕ → Bool) → every_of q (picked n p) ≡ every_in n (λ (k : ℕ). not (p k) || q k)
+unfolding picked every_in every_of
 every-picked zero p q = refl
 every-picked (suc n) p q = grind (arith, every-picked n p q)
 
 -- the first i that pass
 unfoldable pub first : ℕ → (ℕ → Bool) → ℕ → Bool
-first i p k = p k and leb (count_in k p) i
+first i p k = p k && nat_le (count_in k p) i
 
 pub count-first : (n i : ℕ) (p : ℕ → Bool) → count_in n (first i p) ≡ min i (count_in n p)
-unfolding first count_in plus ◌and◌
+unfolding first count_in plus
 count-first zero i p = omega arith
 count-first (suc n) i p = grind (arith, nat_tests, count-first n i p)
 
 -- what never passes both of two tests is counted once
 pub count-apart : (n : ℕ) (p q : ℕ → Bool) → ((k : ℕ) → p k ≡ true → q k ≡ true → ⊥)
-    → count_in n (λ (k : ℕ). p k or q k) ≡ count_in n p + count_in n q
-unfolding count_in plus ◌or◌
+    → count_in n (λ (k : ℕ). p k || q k) ≡ count_in n p + count_in n q
+unfolding count_in plus
 count-apart zero p q a = refl
 count-apart (suc n) p q a = grind (arith, a (suc n), count-apart n p q a)

@@ -1,12 +1,11 @@
 -- Laws of counting among 1 to n. Assumes nothing.
+use Rattle.std.specs.Prelude.{◌==◌, ◌&&◌, ◌||◌}
 use Prim.Native.Nat.{ℕ, zero, suc, ◌+◌, ◌*◌, ◌≤◌, ◌<◌}
 use mathlib.Core.Path.{◌≡◌, refl}
 use mathlib.Core.Bool.{Bool, true, false, true≢false}
 use mathlib.Core.Logic.{⊎_elim}
 use native.Mathlib.Omega.{arith}
-use lib.Dec.{eqb}
 use Rattle.std.proofs.lemmas.Bool.Decides.{nat_tests}
-use Rattle.delivery.specs.Tests.{◌and◌, ◌or◌}
 use Rattle.delivery.specs.Counting.{plus, count_in, every_in}
 use Rattle.delivery.specs.Bus.{faults, quorum, overlap}
 use Rattle.delivery.proofs.TestLaws.{decided}
@@ -31,23 +30,23 @@ count-le (suc n) p = grind (arith, count-le n p)
 
 -- all of 1 to n pass: each does, and exactly if the count is n
 pub every-reads : (n : ℕ) (p : ℕ → Bool) → every_in n p ≡ true → (k : ℕ) → 1 ≤ k → k ≤ n → p k ≡ true
-unfolding every_in ◌and◌
+unfolding every_in
 every-reads zero p h k l u = absurd (omega arith)
 every-reads (suc n) p h k l u = grind (arith, every-reads n p)
 
 pub reads-every : (n : ℕ) (p : ℕ → Bool) → ((k : ℕ) → 1 ≤ k → k ≤ n → p k ≡ true) → every_in n p ≡ true
-unfolding every_in ◌and◌
+unfolding every_in
 reads-every zero p h = refl
 reads-every (suc n) p h = grind (arith, h (suc n), reads-every n p (λ k l u. h k l (omega arith)))
 
-pub every-counted : (n : ℕ) (p : ℕ → Bool) → every_in n p ≡ eqb (count_in n p) n
-unfolding every_in count_in plus ◌and◌
+pub every-counted : (n : ℕ) (p : ℕ → Bool) → every_in n p ≡ (count_in n p == n)
+unfolding every_in count_in plus
 every-counted zero p = refl
 every-counted (suc n) p = grind (arith, nat_tests, every-counted n p, count-le n p)
 
 -- where not all pass, one fails; and a count of one or more has one that passes
 pub every-fails : (n : ℕ) (p : ℕ → Bool) → every_in n p ≡ false → (k : ℕ) × (1 ≤ k) × (k ≤ n) × (p k ≡ false)
-unfolding every_in ◌and◌
+unfolding every_in
 every-fails zero p h = absurd (true≢false h)
 every-fails (suc n) p h =
     ⊎_elim
@@ -70,13 +69,13 @@ count-some zero p k l h t = absurd (omega arith)
 count-some (suc n) p k l h t = grind (arith, count-some n p k l)
 
 -- what two tests count beyond all of them, some pass both; and what passes one of two is counted by one of them
-pub shared : (n : ℕ) (p p' : ℕ → Bool) → count_in n p + count_in n p' ≤ n + count_in n (λ (k : ℕ). p k and p' k)
-unfolding count_in plus ◌and◌
+pub shared : (n : ℕ) (p p' : ℕ → Bool) → count_in n p + count_in n p' ≤ n + count_in n (λ (k : ℕ). p k && p' k)
+unfolding count_in plus
 shared zero p p' = omega arith
 shared (suc n) p p' = grind (arith, shared n p p')
 
-pub count-or : (n : ℕ) (p p' : ℕ → Bool) → count_in n (λ (k : ℕ). p k or p' k) ≤ count_in n p + count_in n p'
-unfolding count_in plus ◌or◌
+pub count-or : (n : ℕ) (p p' : ℕ → Bool) → count_in n (λ (k : ℕ). p k || p' k) ≤ count_in n p + count_in n p'
+unfolding count_in plus
 count-or zero p p' = omega arith
 count-or (suc n) p p' = grind (arith, count-or n p p')
 
@@ -90,7 +89,7 @@ pub quorums-meet : (n : ℕ) → n + overlap n ≤ quorum n + quorum n
 quorums-meet n = omega arith
 
 pub quorums-share : (n : ℕ) (p p' : ℕ → Bool)
-    → quorum n ≤ count_in n p → quorum n ≤ count_in n p' → overlap n ≤ count_in n (λ (k : ℕ). p k and p' k)
+    → quorum n ≤ count_in n p → quorum n ≤ count_in n p' → overlap n ≤ count_in n (λ (k : ℕ). p k && p' k)
 quorums-share n p p' h h' = omega (arith, shared n p p')
 
 pub overlap-pos : (n : ℕ) → 1 ≤ n → 1 ≤ overlap n

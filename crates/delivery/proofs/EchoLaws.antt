@@ -4,10 +4,8 @@ use native.Mathlib.Omega.{arith}
 use mathlib.Core.Path.{◌≡◌}
 use mathlib.Core.Bool.{Bool, true}
 use mathlib.Core.Logic.{◌⊎◌, ◌↔◌}
-use lib.Dec.{eqb}
 use Rattle.std.proofs.lemmas.Bool.Decides.{nat_tests}
 use Rattle.signer.specs.Log.{is_identifier}
-use Rattle.delivery.specs.Tests.{◌and◌, ◌or◌, neg}
 use Rattle.delivery.specs.Limits.{Limits}
 use Rattle.delivery.specs.Bus.{is_board}
 use Rattle.delivery.specs.Sets.{in_set, set_of, bits}
@@ -34,7 +32,7 @@ module _ (L : Limits) (o : Owed) (s i sound have : ℕ) (w : Whole L o) (b : is_
 
   -- once s signed the statement a copy is owed to k if it wants one
   pub signing-owes : (in_set (receivers L (after_signing L o s i sound have) s i) k ≡ true) ↔ Wants
-  unfolding lacks ◌and◌ ◌or◌ neg
+  unfolding lacks
   signing-owes =
       rw (signing-here L o s i sound have w b d) (
         λ t. let m = (members bits _ k).0 t in grind (arith, nat_tests),
@@ -44,7 +42,7 @@ module _ (L : Limits) (o : Owed) (s i sound have : ℕ) (w : Whole L o) (b : is_
   -- and once board j delivered it, if k is another than j
   pub delivery-owes : (j : ℕ)
       → (in_set (receivers L (after_delivery L o j s i sound have) s i) k ≡ true) ↔ ((k ≡ j → ⊥) × Wants)
-  unfolding lacks ◌and◌ ◌or◌ neg
+  unfolding lacks
   delivery-owes j =
       rw (delivery-here L o j s i sound have w b d) (
         λ t. let m = (members bits _ k).0 t in grind (arith, nat_tests),

@@ -3,11 +3,9 @@ use Prim.Native.Nat.{ℕ, ◌+◌, ◌-◌, min}
 use native.Mathlib.Omega.{arith}
 use mathlib.Core.Path.{◌≡◌, refl, sym, ap, ◌∙◌}
 use mathlib.Core.Bool.{Bool}
-use lib.Dec.{leb}
 use Rattle.signer.specs.FromOne.{is_within, nth, set_nth}
-use Rattle.delivery.specs.Tests.{◌and◌, ◌or◌, neg}
 use Rattle.delivery.specs.Counting.{plus, count_in}
-use Rattle.std.specs.Prelude.{if◌then◌else◌}
+use Rattle.std.specs.Prelude.{if◌then◌else◌, nat_le}
 use Rattle.std.proofs.lemmas.Bool.Decides.{nat_tests}
 use Rattle.delivery.specs.Bus.{quorum, overlap}
 use Rattle.delivery.specs.Limits.{limits}
@@ -58,17 +56,17 @@ unfolding next_round
 next-rounds = (refl, refl, refl)
 
 pub masks : Masks
-unfolding in_set set_of with_board without_board union minus count_in plus ◌and◌ ◌or◌ neg
+unfolding in_set set_of with_board without_board union minus count_in plus
 masks = (refl, refl, refl, refl, refl, refl, refl, refl, refl, refl, refl, refl, refl, refl, refl)
 
 pub places : Places
-unfolding index_of index_at place_of is_within ◌and◌
+unfolding index_of index_at place_of is_within
 places = (refl, refl, refl, refl, refl, refl, refl, refl)
 
 pub copies : Copies
 unfolding
     after_signing after_delivery nothing_owed no_copies receivers receivers_at with_receivers with_receivers_at copies_of
-    with_copies lacks in_set set_of nth set_nth ◌and◌ ◌or◌ neg
+    with_copies lacks in_set set_of nth set_nth
 copies = (refl, refl, refl, refl)
 
 -- in round 2, by what is counted in round 1: the opening's entry is 10, b ballots are blank and c bear 9; what that leaves
@@ -78,11 +76,11 @@ Tallied n d b c a =
     × (b ≡ count_in n (backs limits (heard limits d) 1 1))
     × (c ≡ count_in n (backs limits (heard limits d) 1 10))
     × (a
-    ≡ (if leb (quorum n) (b + min c (overlap n - 1)) then Every else (if leb (quorum n) (b + c) then Only 10 else Nothing)))
+    ≡ (if nat_le (quorum n) (b + min c (overlap n - 1)) then Every else (if nat_le (quorum n) (b + c) then Only 10 else Nothing)))
 
 second : (n : ℕ) (d : Delivered) (b c : ℕ) (a : Allowance) → Tallied n d b c a → (n ≡ 0 → ⊥) → (w : ℕ)
     → allowed limits n (heard limits d) 2 w ≡ lets a w
-unfolding says lets neg
+unfolding says lets
 second n d b c a k l w =
     let h = heard limits d in
     let next = pass-turn limits n h Every a 1 b c (every_first limits n h) l (omega arith) k.1 (rw k.0 k.2) (rw k.0 k.3) in
@@ -95,7 +93,7 @@ tallies : (Tallied 3 nine-blank 1 1 (Only 10))
     × (Tallied 4 nine-blank-blank 2 1 Every)
     × (Tallied 4 nine-nine-blank 1 2 (Only 10))
 unfolding
-    heard_in place_of deliver nothing_delivered identifier_of phase_of is_within coordinator ◌and◌ ◌or◌ neg says bears
+    heard_in place_of deliver nothing_delivered identifier_of phase_of is_within coordinator says bears
     backs lets count_in plus nth set_nth
 tallies = (
   (refl, refl, refl, refl),
@@ -108,7 +106,7 @@ tallies = (
 
 -- letters e to j
 pub letter-e : LetterE
-unfolding lets ◌and◌ neg
+unfolding lets
 letter-e w = second 3 nine-blank 1 1 (Only 10) tallies.0 (omega arith) w ∙ (grind (arith, nat_tests))
 
 pub letter-f : LetterF
@@ -128,13 +126,13 @@ unfolding lets
 letter-i = second 4 nine-blank-blank 2 1 Every tallies.4 (omega arith)
 
 pub letter-j : LetterJ
-unfolding lets ◌and◌ neg
+unfolding lets
 letter-j w = second 4 nine-nine-blank 1 2 (Only 10) tallies.5 (omega arith) w ∙ (grind (arith, nat_tests))
 
 -- letter k: no opening was heard, so no ballot with a value is accepted
 pub letter-k : LetterK
 unfolding
-    heard_in place_of deliver nothing_delivered identifier_of phase_of is_within coordinator ◌and◌ nth set_nth
+    heard_in place_of deliver nothing_delivered identifier_of phase_of is_within coordinator nth set_nth
 letter-k v = (
   refl,
   λ s w z.

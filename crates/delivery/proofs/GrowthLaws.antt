@@ -7,7 +7,6 @@ use mathlib.Core.Path.{◌≡◌, refl, sym, ◌∙◌}
 use mathlib.Core.Bool.{Bool, true}
 use mathlib.Core.Logic.{inl, inr, ⊎_elim}
 use Rattle.std.proofs.lemmas.Bool.Decides.{nat_tests}
-use Rattle.delivery.specs.Tests.{◌and◌, ◌or◌}
 use Rattle.delivery.specs.Limits.{Limits}
 use Rattle.delivery.specs.Delivered.{Store, heard, deliver}
 use Rattle.delivery.specs.Acceptance.{bears, opens, counts, allowed, accepts_opening, accepts_ballot}
@@ -34,16 +33,16 @@ module _ (L : Limits) (n : ℕ) (h h' : Store) (g : Grows h h') where
   -- in one round, where as much or more is allowed
   module _ (r : ℕ) (m : (w : ℕ) → allowed L n h r w ≡ true → allowed L n h' r w ≡ true) where
     opens-grows : (w : ℕ) → accepts_opening L n h r w ≡ true → accepts_opening L n h' r w ≡ true
-    unfolding accepts_opening opens ◌and◌
+    unfolding accepts_opening opens
     opens-grows w o = grind (arith, nat_tests, g.keeps, m w)
 
     counts-grows : (s w : ℕ) → accepts_ballot L n h r s w ≡ true → accepts_ballot L n h' r s w ≡ true
-    unfolding accepts_ballot accepts_opening counts bears ◌and◌ ◌or◌
+    unfolding accepts_ballot accepts_opening counts bears
     counts-grows s w c = grind (arith, nat_tests, g.keeps, opens-grows w)
 
     -- of speakers whose ballots are accepted, as many bear a value by the one as by the other
     among-grows : (w : ℕ) (p : ℕ → Bool) → Leaves L n h r w p → (v : ℕ) → among L n h r p v ≡ among L n h' r p v
-    unfolding accepts_ballot accepts_opening counts bears ◌and◌ ◌or◌
+    unfolding accepts_ballot accepts_opening counts bears
     among-grows w p l v =
         count-cong n _ _ (λ s a b. grind (arith, nat_tests, l.accepted s a b, g.keeps, opens-grows))
 

@@ -7,12 +7,10 @@ use mathlib.Core.Path.{◌≡◌, refl, sym, ◌∙◌}
 use mathlib.Core.Bool.{Bool, true}
 use mathlib.Core.Logic.{◌⊎◌, inl, inr, ⊎_elim}
 use mathlib.Core.List.{List}
-use lib.Dec.{eqb, leb}
 use lib.ListN.{length}
-use Rattle.std.specs.Prelude.{if◌then◌else◌}
+use Rattle.std.specs.Prelude.{if◌then◌else◌, ◌==◌, nat_le, ◌&&◌, ◌||◌, not}
 use Rattle.std.proofs.lemmas.Bool.Decides.{nat_tests}
 use Rattle.signer.specs.Log.{entry_of}
-use Rattle.delivery.specs.Tests.{◌and◌, ◌or◌, neg}
 use Rattle.delivery.specs.Counting.{count_in, count_of, every_of}
 use Rattle.delivery.specs.Limits.{Limits}
 use Rattle.delivery.specs.Bus.{quorum, overlap}
@@ -24,12 +22,10 @@ use Rattle.delivery.proofs.ChoiceLaws.{picked, picked-some, some-picked, length-
 use Rattle.delivery.proofs.AllRoundsLaws.{allowed-next, allowed-blank, accepted-reads, reads-accepted}
 
 -- "not 0" as a test
-pub some-value : (w : ℕ) → neg (eqb w 0) ≡ true → w ≡ 0 → ⊥
-unfolding neg
+pub some-value : (w : ℕ) → not (w == 0) ≡ true → w ≡ 0 → ⊥
 some-value w h = grind (arith, nat_tests)
 
-pub value-some : (w : ℕ) → (w ≡ 0 → ⊥) → neg (eqb w 0) ≡ true
-unfolding neg
+pub value-some : (w : ℕ) → (w ≡ 0 → ⊥) → not (w == 0) ≡ true
 value-some w h = grind (arith, nat_tests)
 
 -- a ballot backs the entry of w exactly if it bears w
@@ -41,7 +37,7 @@ backs-value L h r w s = refl
 -- whether w is allowed in this round
 unfoldable pub by-counts : ℕ → ℕ → ℕ → ℕ → ℕ → ℕ → Bool → Bool
 by-counts q e x b c w m =
-    neg (eqb w 0) and ((eqb x (entry_of w) and leb q (b + c) and leb e c) or (m and leb q (b + min c (e - 1))))
+    not (w == 0) && ((x == entry_of w && nat_le q (b + c) && nat_le e c) || (m && nat_le q (b + min c (e - 1))))
 
 module _ (L : Limits) (n : ℕ) (h : Store) (r : ℕ) where
   -- of some speakers, a ballot is accepted from each, whatever it bears
@@ -50,7 +46,7 @@ module _ (L : Limits) (n : ℕ) (h : Store) (r : ℕ) where
 
   -- how many of them have an accepted ballot with v
   abbrev pub among : (ℕ → Bool) → ℕ → ℕ
-  among p v = count_in n (λ (s : ℕ). p s and accepts_ballot L n h r s v)
+  among p v = count_in n (λ (s : ℕ). p s && accepts_ballot L n h r s v)
 
   -- fewer than k for every value other than the blank
   abbrev Below : (ℕ → Bool) → ℕ → Type 0
@@ -63,19 +59,19 @@ module _ (L : Limits) (n : ℕ) (h : Store) (r : ℕ) where
     pub reason : (overlap n ≤ among p w) ⊎ (Below p (overlap n) × (allowed L n h r w ≡ true))
 
   count-among : (p : ℕ → Bool) → Heard p → (v : ℕ) → count_of (bears L h r v) (picked n p) ≡ among p v
-  unfolding accepts_ballot counts bears ◌and◌
+  unfolding accepts_ballot counts bears
   count-among p c v =
       count-picked n p (bears L h r v) ∙ count-cong n _ _ (λ s l u. grind (arith, nat_tests, c s l u))
 
   -- the test of a choice that allows w next
   carries : ℕ → List ℕ → Bool
   carries w ss =
-      eqb (length ss) (quorum n)
-      and every_of (accepts_some L n h r) ss
-      and (leb (overlap n) (count_of (bears L h r w) ss) or (divided L n h r ss and allowed L n h r w))
+      length ss == quorum n
+      && every_of (accepts_some L n h r) ss
+      && (nat_le (overlap n) (count_of (bears L h r w) ss) || (divided L n h r ss && allowed L n h r w))
 
   divided-reads : (p : ℕ → Bool) → Heard p → divided L n h r (picked n p) ≡ true → 1 ≤ overlap n → Below p (overlap n)
-  unfolding divided says accepts_ballot counts bears ◌and◌ ◌or◌ neg
+  unfolding divided says accepts_ballot counts bears
   divided-reads p c d e v z = go (dec_le 1 (among p v))
     where
       go : Dec (1 ≤ among p v) → among p v < overlap n
@@ -85,12 +81,12 @@ module _ (L : Limits) (n : ℕ) (h : Store) (r : ℕ) where
           grind (arith, nat_tests, s.3, count-among p c v, every-reads n _ (sym (every-picked n p _) ∙ d) s.0 s.1 s.2)
 
   reads-divided : (p : ℕ → Bool) → Heard p → Below p (overlap n) → divided L n h r (picked n p) ≡ true
-  unfolding divided says accepts_ballot counts bears ◌and◌ ◌or◌ neg
+  unfolding divided says accepts_ballot counts bears
   reads-divided p c d =
       rw every-picked (reads-every n _ (λ s l u. grind (arith, nat_tests, c s l u, count-among p c, d)))
 
   carries-reads : (w : ℕ) (p : ℕ → Bool) → carries w (picked n p) ≡ true → (count_in n p ≡ quorum n) × Leaves w p
-  unfolding carries ◌and◌ ◌or◌ neg
+  unfolding carries
   carries-reads w p t =
       let e : every_of (accepts_some L n h r) (picked n p) ≡ true = grind arith in
       let every = every-reads n _ (sym (every-picked n p _) ∙ e) in
@@ -106,7 +102,7 @@ module _ (L : Limits) (n : ℕ) (h : Store) (r : ℕ) where
           inr (divided-reads p c d (omega arith), grind (arith, nat_tests, count-among p c w))
 
   reads-carries : (w : ℕ) (p : ℕ → Bool) → count_in n p ≡ quorum n → Leaves w p → carries w (picked n p) ≡ true
-  unfolding carries ◌and◌ ◌or◌ neg
+  unfolding carries
   reads-carries w p q l =
       let heard : (s : ℕ) → 1 ≤ s → s ≤ n → p s ≡ true → accepts_some L n h r s ≡ true =
       λ s a b t. let x = l.accepted s a b t in reads-accepted L n h r s x.0 x.1 in
@@ -122,7 +118,7 @@ module _ (L : Limits) (n : ℕ) (h : Store) (r : ℕ) where
   module _ (w : ℕ) (low : 1 ≤ r) where
     pub later-reads : allowed L n h (r + 1) w ≡ true
         → (w ≡ 0 → ⊥) × ((p : ℕ → Bool) × (count_in n p ≡ quorum n) × Leaves w p)
-    unfolding allowed_after carries accepts_some ◌and◌ neg
+    unfolding allowed_after carries accepts_some
     later-reads a =
         let a' = rw (allowed-next L n h r w low) at a in
         let x = some-picked n (carries w) (grind (arith, a')) in
@@ -131,7 +127,7 @@ module _ (L : Limits) (n : ℕ) (h : Store) (r : ℕ) where
 
     pub reads-later : (w ≡ 0 → ⊥) → (p : ℕ → Bool) → count_in n p ≡ quorum n → Leaves w p
         → allowed L n h (r + 1) w ≡ true
-    unfolding allowed_after carries accepts_some ◌and◌ neg
+    unfolding allowed_after carries accepts_some
     reads-later z p q l =
         let x = picked-some n (carries w) p (reads-carries w p q l) in
         rw (allowed-next L n h r w low) (grind (arith, nat_tests))
@@ -152,15 +148,15 @@ module _ (L : Limits) (n : ℕ) (h : Store) (r : ℕ) where
 
   -- and of some speakers' ballots
   abbrev backing-among : (ℕ → Bool) → ℕ
-  backing-among p = count_in n (λ (s : ℕ). p s and backs L h r entry s)
+  backing-among p = count_in n (λ (s : ℕ). p s && backs L h r entry s)
 
-  pub opened-entry : (w : ℕ) → accepts_opening L n h r w ≡ eqb entry (entry_of w)
-  unfolding entry says accepts_opening opens ◌and◌ neg
+  pub opened-entry : (w : ℕ) → accepts_opening L n h r w ≡ (entry == entry_of w)
+  unfolding entry says accepts_opening opens
   opened-entry w = grind (arith, nat_tests, allowed-blank L n h r)
 
   -- the accepted ballots are the blank ones and those for the opening's value, which are apart
-  pub some-either : (s : ℕ) → accepts_some L n h r s ≡ (bears L h r 0 s or backs L h r entry s)
-  unfolding accepts_some accepts_opening counts_some counts says backs bears ◌and◌ ◌or◌
+  pub some-either : (s : ℕ) → accepts_some L n h r s ≡ (bears L h r 0 s || backs L h r entry s)
+  unfolding accepts_some accepts_opening counts_some counts says backs bears
   some-either s = grind (arith, nat_tests, opened-entry)
 
   entry-some : entry ≡ 1 → ⊥
@@ -176,27 +172,26 @@ module _ (L : Limits) (n : ℕ) (h : Store) (r : ℕ) where
       omega (
         arith,
         count-apart n (bears L h r 0) (backs L h r entry) apart,
-        count-le n (λ (s : ℕ). bears L h r 0 s or backs L h r entry s),
+        count-le n (λ (s : ℕ). bears L h r 0 s || backs L h r entry s),
       )
 
-  value-backs : (w s : ℕ) → (w ≡ 0 → ⊥) → accepts_ballot L n h r s w ≡ (eqb entry (entry_of w) and backs L h r entry s)
-  unfolding accepts_ballot accepts_opening counts says backs bears ◌and◌ ◌or◌
+  value-backs : (w s : ℕ) → (w ≡ 0 → ⊥) → accepts_ballot L n h r s w ≡ (entry == entry_of w && backs L h r entry s)
+  unfolding accepts_ballot accepts_opening counts says backs bears
   value-backs w s z = grind (arith, nat_tests, opened-entry)
 
   pub value-among : (p : ℕ → Bool) (w : ℕ) → (w ≡ 0 → ⊥) → accepts_opening L n h r w ≡ true
       → among p w ≡ backing-among p
-  unfolding ◌and◌
   value-among p w z o = count-cong n _ _ (λ s l u. grind (arith, value-backs w s, opened-entry w))
 
   -- where each value stands fewer than k times among them, so does the opening's
   pub backing-few : (p : ℕ → Bool) (k : ℕ) → 1 ≤ k → Below p k → backing-among p < k
-  unfolding backs says ◌and◌
+  unfolding backs says
   backing-few p k l f = go (dec_le 1 (backing-among p))
     where
       go : Dec (1 ≤ backing-among p) → backing-among p < k
       go (no m) = omega arith
       go (yes m) =
-          let s = find n (λ (s : ℕ). p s and backs L h r entry s) m in
+          let s = find n (λ (s : ℕ). p s && backs L h r entry s) m in
           let v = entry - 1 in
           let z : v ≡ 0 → ⊥ = λ e. grind (arith, s.3, entry-some) in
           let o : accepts_opening L n h r v ≡ true = grind (arith, nat_tests, s.3, opened-entry v) in
@@ -204,21 +199,21 @@ module _ (L : Limits) (n : ℕ) (h : Store) (r : ℕ) where
 
   pub leaves-counts : (w : ℕ) (p : ℕ → Bool) → 1 ≤ n → (w ≡ 0 → ⊥) → quorum n ≤ count_in n p → Leaves w p
       → counted w ≡ true
-  unfolding by-counts accepts_ballot accepts_opening counts ◌and◌ ◌or◌ neg
+  unfolding by-counts accepts_ballot accepts_opening counts
   leaves-counts w p some z q l =
       ⊎_elim
       (λ (m : overlap n ≤ among p w).
-      let s = find n (λ (s : ℕ). p s and accepts_ballot L n h r s w) (omega (arith, m, overlap-pos n some)) in
+      let s = find n (λ (s : ℕ). p s && accepts_ballot L n h r s w) (omega (arith, m, overlap-pos n some)) in
       let o : accepts_opening L n h r w ≡ true = grind (arith, nat_tests, s.3) in
       grind (arith, nat_tests, size, most, value-among p w z o, opened-entry w))
       (λ d. grind (arith, nat_tests, d.1, size, most, backing-few p (overlap n) (overlap-pos n some) d.0))
       l.reason
     where
-      either : (s : ℕ) → 1 ≤ s → s ≤ n → p s ≡ true → (bears L h r 0 s or (p s and backs L h r entry s)) ≡ true
+      either : (s : ℕ) → 1 ≤ s → s ≤ n → p s ≡ true → (bears L h r 0 s || (p s && backs L h r entry s)) ≡ true
       either s a b t = let x = l.accepted s a b t in grind (arith, reads-accepted L n h r s x.0 x.1, some-either s)
 
       size : quorum n ≤ blank + backing-among p
-      size = omega (arith, count-mono n p _ either, count-or n (bears L h r 0) (λ (s : ℕ). p s and backs L h r entry s))
+      size = omega (arith, count-mono n p _ either, count-or n (bears L h r 0) (λ (s : ℕ). p s && backs L h r entry s))
 
       most : backing-among p ≤ backing
       most = count-mono n _ _ (λ s a b t. grind arith)
@@ -228,7 +223,7 @@ module _ (L : Limits) (n : ℕ) (h : Store) (r : ℕ) where
     chosen : (i j : ℕ) → (w ≡ 0 → ⊥) → i ≤ blank → j ≤ backing → i + j ≡ quorum n
         → ((entry ≡ entry_of w) × (overlap n ≤ j)) ⊎ ((allowed L n h r w ≡ true) × (j < overlap n))
         → allowed L n h (r + 1) w ≡ true
-    unfolding first ◌and◌ ◌or◌
+    unfolding first
     chosen i j z a b e t =
         reads-later w low z p size (record {
           accepted = λ s l u t. accepted-reads L n h r s (grind (arith, some-either s));
@@ -236,7 +231,7 @@ module _ (L : Limits) (n : ℕ) (h : Store) (r : ℕ) where
         })
       where
         p : ℕ → Bool
-        p s = first i (bears L h r 0) s or first j (backs L h r entry) s
+        p s = first i (bears L h r 0) s || first j (backs L h r entry) s
 
         size : count_in n p ≡ quorum n
         size =
@@ -265,7 +260,7 @@ module _ (L : Limits) (n : ℕ) (h : Store) (r : ℕ) where
             t
 
     pub counts-later : 1 ≤ n → counted w ≡ true → allowed L n h (r + 1) w ≡ true
-    unfolding by-counts ◌and◌ ◌or◌ neg
+    unfolding by-counts
     counts-later some t =
         let z : w ≡ 0 → ⊥ = λ z. grind arith in
         let s : ((entry ≡ entry_of w) × (quorum n ≤ blank + backing) × (overlap n ≤ backing))

@@ -1,14 +1,13 @@
 -- Laws of the copies that are owed. Assumes nothing.
+use Rattle.std.specs.Prelude.{◌==◌, ◌&&◌, ◌||◌, not}
 use Prim.Native.Nat.{ℕ, ◌≤◌}
 use mathlib.Core.Path.{◌≡◌, ap, ◌∙◌}
 use mathlib.Core.Bool.{Bool, true}
 use mathlib.Core.Logic.{◌⊎◌}
 use native.Mathlib.Omega.{arith}
-use lib.Dec.{eqb}
 use lib.ListN.{length, length-replicate}
 use Rattle.signer.specs.Log.{is_identifier}
 use Rattle.signer.proofs.FromOneLaws.{get_none, get_some, within-out, nth-any, set_nth-index, set_nth-none, length-set_nth, nth-set-same, nth-set-other, nth-change, nth-replicate, within_low, within-high}
-use Rattle.delivery.specs.Tests.{◌and◌, ◌or◌, neg}
 use Rattle.delivery.specs.Limits.{Limits}
 use Rattle.delivery.specs.Bus.{is_board}
 use Rattle.delivery.specs.Sets.{in_set, set_of, bits, without_board, union, minus}
@@ -85,7 +84,7 @@ module _ (L : Limits) (o : Owed) (s i sound have : ℕ) where
 
   pub signing-here : Whole L o → is_board L s ≡ true → is_identifier L.identifiers i ≡ true
       → receivers L (after_signing L o s i sound have) s i
-      ≡ set_of bits (λ (k : ℕ). in_set (receivers L o s i) k or lacks sound have s k)
+      ≡ set_of bits (λ (k : ℕ). in_set (receivers L o s i) k || lacks sound have s k)
   unfolding after_signing
   signing-here = with-here L o s i _
 
@@ -102,7 +101,7 @@ module _ (L : Limits) (o : Owed) (j s i sound have : ℕ) where
 
   pub delivery-here : Whole L o → is_board L s ≡ true → is_identifier L.identifiers i ≡ true
       → receivers L (after_delivery L o j s i sound have) s i
-      ≡ set_of bits (λ (k : ℕ). neg (eqb k j) and (in_set (receivers L o s i) k or lacks sound have s k))
+      ≡ set_of bits (λ (k : ℕ). not (k == j) && (in_set (receivers L o s i) k || lacks sound have s k))
   unfolding after_delivery
   delivery-here = with-here L o s i _
 
@@ -113,13 +112,13 @@ module _ (L : Limits) (o : Owed) (j s i sound have : ℕ) where
 
 -- the sets in these definitions, made of sets
 pub signing-set : (m s sound have : ℕ)
-    → union m (minus (without_board sound s) have) ≡ set_of bits (λ (k : ℕ). in_set m k or lacks sound have s k)
-unfolding union minus without_board lacks ◌and◌ ◌or◌ neg
+    → union m (minus (without_board sound s) have) ≡ set_of bits (λ (k : ℕ). in_set m k || lacks sound have s k)
+unfolding union minus without_board lacks
 signing-set m s sound have = set-cong bits _ _ (λ k l h. simp in-set_of-within (grind arith))
 
 pub delivery-set : (j : ℕ) (p : ℕ → Bool)
-    → without_board (set_of bits p) j ≡ set_of bits (λ (k : ℕ). neg (eqb k j) and p k)
-unfolding without_board ◌and◌ neg
+    → without_board (set_of bits p) j ≡ set_of bits (λ (k : ℕ). not (k == j) && p k)
+unfolding without_board
 delivery-set j p = set-cong bits _ _ (λ k l h. simp in-set_of-within (grind arith))
 
 -- for the functions

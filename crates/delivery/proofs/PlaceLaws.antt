@@ -7,7 +7,6 @@ use native.Mathlib.Omega.{arith}
 use Rattle.std.proofs.lemmas.Nat.{div-mul-add, mul-add-lt}
 use Rattle.signer.specs.Log.{is_identifier}
 use Rattle.signer.proofs.FromOneLaws.{within-high, within_low}
-use Rattle.delivery.specs.Tests.{◌and◌}
 use Rattle.delivery.specs.Limits.{Limits}
 use Rattle.delivery.specs.Bus.{is_board}
 use Rattle.delivery.specs.Delivered.{place_of, index_at, index_of}
@@ -15,22 +14,22 @@ use Rattle.delivery.specs.Delivered.{place_of, index_at, index_of}
 module _ (L : Limits) (s i : ℕ) where
   -- what no board can say has no place
   pub place-nobody : is_board L s ≡ false → place_of L s i ≡ 0
-  unfolding place_of ◌and◌
+  unfolding place_of
   place-nobody h = grind arith
 
   pub place-outside : is_identifier L.identifiers i ≡ false → place_of L s i ≡ 0
-  unfolding place_of ◌and◌
+  unfolding place_of
   place-outside h = grind arith
 
   -- and what a board can say has one
   pub place-there : is_board L s ≡ true → is_identifier L.identifiers i ≡ true
       → place_of L s i ≡ (s - 1) * L.identifiers + i
-  unfolding place_of ◌and◌
+  unfolding place_of
   place-there b h = grind arith
 
   -- of all that there are
   pub place-high : place_of L s i ≤ L.boards * L.identifiers
-  unfolding place_of ◌and◌
+  unfolding place_of
   place-high =
       let fits = mul-add-lt (s - 1) L.identifiers (i - 1) L.boards in
       let high = within-high L.boards s in
@@ -39,7 +38,7 @@ module _ (L : Limits) (s i : ℕ) where
   -- its row and where in the row it is
   row : (place_of L s i ≡ 0 → ⊥)
       → (s ≡ (place_of L s i - 1) / L.identifiers + 1) × (place_of L s i ≡ (s - 1) * L.identifiers + i)
-  unfolding place_of ◌and◌
+  unfolding place_of
   row z =
       let own = div-mul-add (s - 1) L.identifiers (i - 1) in
       grind (arith, own, within_low L.boards s, within_low L.identifiers i, within-high L.identifiers i)

@@ -1,13 +1,12 @@
 -- The boards whose ballots bear something, and whose are accepted, as the program collects them. Assumes nothing.
+use Rattle.std.specs.Prelude.{◌==◌, ◌||◌}
 use Prim.Native.Nat.{ℕ, ◌≤◌, min, ◌^◌, ◌<◌}
 use native.Mathlib.Omega.{arith}
 use mathlib.Core.Path.{◌≡◌, sym, ◌∙◌}
 use mathlib.Core.Bool.{true, false}
 use mathlib.Core.List.{List}
-use lib.Dec.{eqb}
 use Rattle.std.proofs.lemmas.Bool.Decides.{nat_tests}
 use Rattle.signer.specs.Log.{entry_of}
-use Rattle.delivery.specs.Tests.{◌and◌, ◌or◌, neg}
 use Rattle.delivery.specs.Limits.{Limits}
 use Rattle.delivery.specs.Bus.{is_board}
 use Rattle.delivery.specs.Rounds.{identifier_of}
@@ -31,7 +30,7 @@ module _ (L : Limits) (es : List ℕ) (r : ℕ) where
 
   -- a ballot backs the entry x, which is not 0, exactly if its entry is x
   pub backs-test : (x s i : ℕ) → (x ≡ 0 → ⊥) → i ≡ identifier_of L Ballot r
-      → backs L (heard_in L es) r x s ≡ eqb (heard_in L es s i) x
+      → backs L (heard_in L es) r x s ≡ (heard_in L es s i == x)
   unfolding backs says bears
   backs-test x s i z e = grind (arith, nat_tests)
 
@@ -44,8 +43,8 @@ module _ (L : Limits) (es : List ℕ) (r : ℕ) where
 
   -- and two such sets, joined, fit into one
   pub bearing-fits : (n x : ℕ) → L.boards ≤ bits
-      → set_of n (λ (s : ℕ). backs L (heard_in L es) r 1 s or backs L (heard_in L es) r x s) < 2 ^ bits
-  unfolding ◌or◌ backs says bears
+      → set_of n (λ (s : ℕ). backs L (heard_in L es) r 1 s || backs L (heard_in L es) r x s) < 2 ^ bits
+  unfolding backs says bears
   bearing-fits n x l = set-fits n L.boards _ (λ s g. grind (arith, nat_tests, silent s g)) l
 
 -- which are those of the accepted ballots, where the opening's value is allowed, and else only the blank ones
@@ -54,13 +53,13 @@ module _ (L : Limits) (es : List ℕ) (r n : ℕ) where
       → says x (allowed L n (heard_in L es) r) ≡ true
       → union (set_of n (backs L (heard_in L es) r (entry_of 0))) (set_of n (backs L (heard_in L es) r x))
       ≡ set_of n (accepts_some L n (heard_in L es) r)
-  unfolding accepts_some counts_some counts opens says backs bears ◌and◌ ◌or◌ neg
+  unfolding accepts_some counts_some counts opens says backs bears
   joined x l e t =
       union-sets n _ _ (bearing-fits L es r n x l) ∙ set-cong n _ _ (λ s a b. grind (arith, nat_tests))
 
   pub alone : says (opening_entry L n (heard_in L es) r) (allowed L n (heard_in L es) r) ≡ false
       → set_of n (backs L (heard_in L es) r (entry_of 0)) ≡ set_of n (accepts_some L n (heard_in L es) r)
-  unfolding accepts_some counts_some counts opens says backs bears ◌and◌ ◌or◌ neg
+  unfolding accepts_some counts_some counts opens says backs bears
   alone f = set-cong n _ _ (λ s a b. grind (arith, nat_tests))
 
 -- for the functions

@@ -1,93 +1,72 @@
 -- Laws of joined tests. Assumes nothing.
+use Rattle.std.specs.Prelude.{◌&&◌, ◌||◌, not}
 use native.Mathlib.Omega.{arith}
 use mathlib.Core.Path.{◌≡◌, refl}
 use mathlib.Core.Bool.{Bool, true, false}
 use mathlib.Core.Logic.{◌⊎◌, inl, inr}
-use Rattle.delivery.specs.Tests.{◌and◌, ◌or◌, neg}
 
-pub and_left : (a b : Bool) → (a and b) ≡ true → a ≡ true
-unfolding ◌and◌
+pub and_left : (a b : Bool) → (a && b) ≡ true → a ≡ true
 and_left a b h = grind arith
 
-pub and_right : (a b : Bool) → (a and b) ≡ true → b ≡ true
-unfolding ◌and◌
+pub and_right : (a b : Bool) → (a && b) ≡ true → b ≡ true
 and_right a b h = grind arith
 
-pub and_in : (a b : Bool) → a ≡ true → b ≡ true → (a and b) ≡ true
-unfolding ◌and◌
+pub and_in : (a b : Bool) → a ≡ true → b ≡ true → (a && b) ≡ true
 and_in a b p q = grind arith
 
-pub and-yes-left : (a b : Bool) → a ≡ true → (a and b) ≡ b
-unfolding ◌and◌
+pub and-yes-left : (a b : Bool) → a ≡ true → (a && b) ≡ b
 and-yes-left a b h = rw h
 
-pub and-no-left : (a b : Bool) → a ≡ false → (a and b) ≡ false
-unfolding ◌and◌
+pub and-no-left : (a b : Bool) → a ≡ false → (a && b) ≡ false
 and-no-left a b h = rw h
 
-pub and-no-right : (a b : Bool) → b ≡ false → (a and b) ≡ false
-unfolding ◌and◌
+pub and-no-right : (a b : Bool) → b ≡ false → (a && b) ≡ false
 and-no-right a b h = grind arith
 
-pub and_assoc : (a b c : Bool) → ((a and b) and c) ≡ (a and b and c)
-unfolding ◌and◌
+pub and_assoc : (a b c : Bool) → ((a && b) && c) ≡ (a && b && c)
 and_assoc a b c = grind arith
 
-pub and_comm : (a b : Bool) → (a and b) ≡ (b and a)
-unfolding ◌and◌
+pub and_comm : (a b : Bool) → (a && b) ≡ (b && a)
 and_comm a b = grind arith
 
-pub or_cases : (a b : Bool) → (a or b) ≡ true → (a ≡ true) ⊎ (b ≡ true)
-unfolding ◌or◌
+pub or_cases : (a b : Bool) → (a || b) ≡ true → (a ≡ true) ⊎ (b ≡ true)
 or_cases a b h = grind arith
 
-pub or_left : (a b : Bool) → a ≡ true → (a or b) ≡ true
-unfolding ◌or◌
+pub or_left : (a b : Bool) → a ≡ true → (a || b) ≡ true
 or_left a b h = grind arith
 
-pub or_right : (a b : Bool) → b ≡ true → (a or b) ≡ true
-unfolding ◌or◌
+pub or_right : (a b : Bool) → b ≡ true → (a || b) ≡ true
 or_right a b h = grind arith
 
-pub or_no : (a b : Bool) → a ≡ false → b ≡ false → (a or b) ≡ false
-unfolding ◌or◌
+pub or_no : (a b : Bool) → a ≡ false → b ≡ false → (a || b) ≡ false
 or_no a b p q = rw p q
 
-pub or-no-left : (a b : Bool) → a ≡ false → (a or b) ≡ b
-unfolding ◌or◌
+pub or-no-left : (a b : Bool) → a ≡ false → (a || b) ≡ b
 or-no-left a b h = rw h
 
-pub or-no-right : (a b : Bool) → b ≡ false → (a or b) ≡ a
-unfolding ◌or◌
+pub or-no-right : (a b : Bool) → b ≡ false → (a || b) ≡ a
 or-no-right a b h = grind arith
 
-pub neg-true : (a : Bool) → neg a ≡ true → a ≡ false
-unfolding neg
+pub neg-true : (a : Bool) → not a ≡ true → a ≡ false
 neg-true a h = grind arith
 
-pub neg-no : (a : Bool) → a ≡ true → neg a ≡ false
-unfolding neg
+pub neg-no : (a : Bool) → a ≡ true → not a ≡ false
 neg-no a h = rw h
 
-pub neg-in : (a : Bool) → a ≡ false → neg a ≡ true
-unfolding neg
+pub neg-in : (a : Bool) → a ≡ false → not a ≡ true
 neg-in a h = grind arith
 
-pub neg-false : (a : Bool) → neg a ≡ false → a ≡ true
-unfolding neg
+pub neg-false : (a : Bool) → not a ≡ false → a ≡ true
 neg-false a h = grind arith
 
 -- what a joined test that fails says of its parts
-pub and-under : (a b : Bool) → a ≡ true → (a and b) ≡ false → b ≡ false
-unfolding ◌and◌
+pub and-under : (a b : Bool) → a ≡ true → (a && b) ≡ false → b ≡ false
 and-under a b h e = grind arith
 
-pub or-false-left : (a b : Bool) → (a or b) ≡ false → a ≡ false
-unfolding ◌or◌
+pub or-false-left : (a b : Bool) → (a || b) ≡ false → a ≡ false
 or-false-left a b h = grind arith
 
-pub or-false-right : (a b : Bool) → (a or b) ≡ false → b ≡ false
-unfolding ◌or◌
+pub or-false-right : (a b : Bool) → (a || b) ≡ false → b ≡ false
 or-false-right a b h = grind arith
 
 -- two tests that pass together are one

@@ -1,7 +1,6 @@
 -- Document 01, "What a board accepts" ("valid" in the published vote), by a store of what it has delivered.
-use Rattle.std.specs.Prelude.{ℕ, zero, suc, Bool, false, List, eqb, leb, ltb, length}
+use Rattle.std.specs.Prelude.{ℕ, zero, suc, Bool, false, List, length, ◌==◌, nat_lt, nat_le, ◌&&◌, ◌||◌, not}
 use Rattle.signer.specs.Log.{entry_of}
-use Rattle.delivery.specs.Tests.{◌and◌, ◌or◌, neg}
 use Rattle.delivery.specs.Counting.{count_of, every_of, some_choice}
 use Rattle.delivery.specs.Limits.{Limits}
 use Rattle.delivery.specs.Bus.{quorum, overlap}
@@ -31,7 +30,7 @@ ballot_entry L h r s = h s (identifier_of L Ballot r)
 
 -- that ballot bears w
 unfoldable pub bears : Limits → Store → ℕ → ℕ → ℕ → Bool
-bears L h r w s = eqb (ballot_entry L h r s) (entry_of w)
+bears L h r w s = ballot_entry L h r s == entry_of w
 
 -- it bears what the entry x stands for
 unfoldable pub backs : Limits → Store → ℕ → ℕ → ℕ → Bool
@@ -42,18 +41,18 @@ backs L h r x s = says x (λ (w : ℕ). bears L h r w s)
 unfoldable pub divided : Limits → ℕ → Store → ℕ → List ℕ → Bool
 divided L n h r ss =
     every_of
-    (λ (s : ℕ). says (ballot_entry L h r s) (λ (w : ℕ). eqb w 0 or ltb (count_of (bears L h r w) ss) (overlap n)))
+    (λ (s : ℕ). says (ballot_entry L h r s) (λ (w : ℕ). w == 0 || nat_lt (count_of (bears L h r w) ss) (overlap n)))
     ss
 
 -- one round, where `may` says which values are allowed in it
 module _ (L : Limits) (n : ℕ) (h : Store) (may : ℕ → Bool) (r : ℕ) where
   -- the opening with w counts: it came from the coordinator, w is not the blank, and w is allowed
   unfoldable pub opens : ℕ → Bool
-  opens w = eqb (opening_entry L n h r) (entry_of w) and neg (eqb w 0) and may w
+  opens w = opening_entry L n h r == entry_of w && not (w == 0) && may w
 
   -- a ballot counts: with the blank always, with a value if the opening with that value counts
   unfoldable pub counts : ℕ → ℕ → Bool
-  counts w s = bears L h r w s and (eqb w 0 or opens w)
+  counts w s = bears L h r w s && (w == 0 || opens w)
 
   -- s has a ballot that counts, whatever it bears
   unfoldable pub counts_some : ℕ → Bool
@@ -64,13 +63,13 @@ module _ (L : Limits) (n : ℕ) (h : Store) (may : ℕ → Bool) (r : ℕ) where
   -- what holds of an estimate that is kept: the second reason is document 01's.
   unfoldable pub allowed_after : ℕ → Bool
   allowed_after w =
-      neg (eqb w 0)
-      and some_choice
+      not (w == 0)
+      && some_choice
       n
       (λ (ss : List ℕ).
-      eqb (length ss) (quorum n)
-      and every_of counts_some ss
-      and (leb (overlap n) (count_of (bears L h r w) ss) or (divided L n h r ss and may w)))
+      length ss == quorum n
+      && every_of counts_some ss
+      && (nat_le (overlap n) (count_of (bears L h r w) ss) || (divided L n h r ss && may w)))
 
 module _ (L : Limits) (n : ℕ) (h : Store) where
   -- what is allowed in each round: every value in the first, and in each later one what the round before it leaves.
@@ -78,7 +77,7 @@ module _ (L : Limits) (n : ℕ) (h : Store) where
   -- in it.
   unfoldable pub allowed : ℕ → ℕ → Bool
   allowed zero w = false
-  allowed (suc zero) w = neg (eqb w 0)
+  allowed (suc zero) w = not (w == 0)
   allowed (suc (suc r)) w = allowed_after L n h (allowed (suc r)) (suc r) w
 
   -- the board accepts the opening of r with w

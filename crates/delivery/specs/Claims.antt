@@ -1,9 +1,8 @@
 -- What holds of every store, of every number of boards and every round, and of every record of owed copies; src/claims
 -- promises it. Sizes, coordinators and acceptance stand here a second time, acceptance in propositions: not by tests of
 -- lists, but by what was said and by how many of some speakers' accepted ballots bear a value.
-use Rattle.std.specs.Prelude.{ℕ, suc, ◌+◌, ◌*◌, ◌≡◌, ◌≤◌, ◌<◌, Bool, true, false, length, ◌⊎◌, ◌↔◌}
+use Rattle.std.specs.Prelude.{ℕ, suc, ◌+◌, ◌*◌, ◌≡◌, ◌≤◌, ◌<◌, Bool, true, false, length, ◌⊎◌, ◌↔◌, ◌&&◌}
 use Rattle.signer.specs.Log.{is_identifier}
-use Rattle.delivery.specs.Tests.{◌and◌}
 use Rattle.delivery.specs.Counting.{count_in}
 use Rattle.delivery.specs.Limits.{Limits, limits}
 use Rattle.delivery.specs.Bus.{is_board, faults, quorum, overlap}
@@ -44,7 +43,7 @@ QuorumsShare =
     (n : ℕ) (p p' : ℕ → Bool)
     → quorum n ≤ count_in n p
     → quorum n ≤ count_in n p'
-    → overlap n ≤ count_in n (λ (k : ℕ). p k and p' k)
+    → overlap n ≤ count_in n (λ (k : ℕ). p k && p' k)
 
 abbrev pub OneShared : Type 0
 OneShared = (n : ℕ) → 1 ≤ n → 1 ≤ overlap n
@@ -63,7 +62,7 @@ module _ (n : ℕ) (h : Store) where
 
   -- how many of these speakers, those of 1 to n that pass, have an accepted ballot of r with v
   abbrev pub ballots_among : ℕ → (ℕ → Bool) → ℕ → ℕ
-  ballots_among r speakers v = count_in n (λ (s : ℕ). speakers s and accepts_ballot limits n h r s v)
+  ballots_among r speakers v = count_in n (λ (s : ℕ). speakers s && accepts_ballot limits n h r s v)
 
   -- a ballot of r is accepted from each of these speakers; and e or more of these ballots bear w, or every value other than
   -- the blank stands fewer than e times among them while w is allowed in r

@@ -1,7 +1,6 @@
 -- Worked examples of sizes, rounds, sets, stores, owed copies and acceptance, with the numbers written out; letters a to c and
 -- e to k of the bench examples are among them. All are shown in proofs/ExampleLaws.
-use Rattle.std.specs.Prelude.{ℕ, suc, ◌≡◌, true, false, eqb, None, Some}
-use Rattle.delivery.specs.Tests.{neg}
+use Rattle.std.specs.Prelude.{ℕ, suc, ◌≡◌, true, false, None, Some, ◌==◌, not}
 use Rattle.delivery.specs.Counting.{count_in}
 use Rattle.delivery.specs.Limits.{limits}
 use Rattle.delivery.specs.Bus.{faults, quorum, overlap}
@@ -108,10 +107,10 @@ ballot s v d = deliver limits d s 2 v
 
 -- What it allows in round 2, among n boards: one value only, every value, or none. The blank is no value.
 abbrev pub AllowsOnly : ℕ → ℕ → Delivered → Type 0
-AllowsOnly v n d = (w : ℕ) → allowed limits n (heard limits d) 2 w ≡ eqb w v
+AllowsOnly v n d = (w : ℕ) → allowed limits n (heard limits d) 2 w ≡ (w == v)
 
 abbrev pub AllowsEvery : ℕ → Delivered → Type 0
-AllowsEvery n d = (w : ℕ) → allowed limits n (heard limits d) 2 w ≡ neg (eqb w 0)
+AllowsEvery n d = (w : ℕ) → allowed limits n (heard limits d) 2 w ≡ not (w == 0)
 
 abbrev pub AllowsNone : ℕ → Delivered → Type 0
 AllowsNone n d = (w : ℕ) → allowed limits n (heard limits d) 2 w ≡ false

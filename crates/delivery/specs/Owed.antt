@@ -1,7 +1,6 @@
 -- Document 01, "Delivery": the copies that are owed.
-use Rattle.std.specs.Prelude.{ℕ, Bool, eqb, replicate}
+use Rattle.std.specs.Prelude.{ℕ, Bool, replicate, ◌==◌, ◌&&◌, ◌||◌, not}
 use Rattle.signer.specs.FromOne.{nth, set_nth}
-use Rattle.delivery.specs.Tests.{◌and◌, ◌or◌, neg}
 use Rattle.delivery.specs.Limits.{Limits}
 use Rattle.delivery.specs.Sets.{in_set, set_of, bits}
 use Rattle.delivery.specs.declared.owed.Copies.{Copies}
@@ -41,13 +40,13 @@ with_receivers L o s i m = with_copies o s (with_receivers_at (copies_of L o s) 
 
 -- board k is one of the sound boards, is not the speaker s, and is not among those that have the statement
 unfoldable pub lacks : ℕ → ℕ → ℕ → ℕ → Bool
-lacks sound have s k = in_set sound k and neg (eqb k s) and neg (in_set have k)
+lacks sound have s k = in_set sound k && not (k == s) && not (in_set have k)
 
 -- sound board s has signed under i: a copy is owed to whom one was owed, and to each board that lacks the
 -- statement
 unfoldable pub after_signing : Limits → Owed → ℕ → ℕ → ℕ → ℕ → Owed
 after_signing L o s i sound have =
-    with_receivers L o s i (set_of bits (λ (k : ℕ). in_set (receivers L o s i) k or lacks sound have s k))
+    with_receivers L o s i (set_of bits (λ (k : ℕ). in_set (receivers L o s i) k || lacks sound have s k))
 
 -- sound board j has delivered what s said under i: the same for every board other than j (the copies to those that
 -- lack it are the ECHO of the published vote), and none is owed to j any more
@@ -58,4 +57,4 @@ after_delivery L o j s i sound have =
     o
     s
     i
-    (set_of bits (λ (k : ℕ). neg (eqb k j) and (in_set (receivers L o s i) k or lacks sound have s k)))
+    (set_of bits (λ (k : ℕ). not (k == j) && (in_set (receivers L o s i) k || lacks sound have s k)))

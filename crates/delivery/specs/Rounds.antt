@@ -1,6 +1,6 @@
 -- Document 01, "Words and sizes": rounds, their coordinators, and the identifiers of their statements; and of
 -- "A board's turns" the round after a round.
-use Rattle.std.specs.Prelude.{ℕ, suc, ◌+◌, ◌-◌, ◌*◌, ◌%◌, Bool, ltb}
+use Rattle.std.specs.Prelude.{ℕ, suc, ◌+◌, ◌-◌, ◌*◌, ◌%◌, Bool, nat_lt}
 use Rattle.signer.specs.FromOne.{is_within}
 use Rattle.std.specs.Prelude.{if◌then◌else◌}
 use Rattle.delivery.specs.Limits.{Limits}
@@ -26,4 +26,4 @@ identifier_of L p r = if is_round L r then phase_of p r else 0
 
 -- the round after r; the last one has none, and stays
 unfoldable pub next_round : Limits → ℕ → ℕ
-next_round L r = if ltb r L.rounds then suc r else r
+next_round L r = if nat_lt r L.rounds then suc r else r

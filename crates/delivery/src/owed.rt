@@ -1,5 +1,4 @@
-ghost use Rattle.std.specs.Prelude.{ℕ, ◌≡◌};
-ghost use Rattle.delivery.specs.Tests.{◌or◌};
+ghost use Rattle.std.specs.Prelude.{ℕ, ◌≡◌, ◌||◌};
 ghost use Rattle.delivery.specs.Limits.{limits};
 ghost use Rattle.delivery.specs.Sets.{in_set, set_of, bits};
 ghost use Rattle.delivery.specs.Owed.{no_copies, receivers_at, with_receivers_at, nothing_owed, copies_of, receivers, with_receivers, lacks, after_signing, after_delivery};
@@ -93,7 +92,7 @@ impl Owed {
     // two sets of one type would hide which is which, so no plainer.
     #[tactic(auto, using(crate::proofs::OwedLaws::sets))]
     fn with_lacking(&self, speaker: u8, id: Identifier, sound: BoardSet, have: BoardSet) -> BoardSet
-        ensures { result ≡ set_of bits (λ (k : ℕ). in_set (receivers limits self.now speaker id.0) k or lacks sound have speaker k) }
+        ensures { result ≡ set_of bits (λ (k : ℕ). in_set (receivers limits self.now speaker id.0) k || lacks sound have speaker k) }
     {
         let mut others = sound;
         others.remove(speaker);

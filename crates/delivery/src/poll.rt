@@ -133,7 +133,7 @@ impl<'a> Poll<'a> {
     }
 
     // Whether the opening of the round with a value is accepted.
-    #[tactic(auto, using(crate::proofs::AllRoundsLaws::accepts), unfolding(crate::specs::Acceptance::accepts_opening, crate::specs::Acceptance::opens, crate::specs::Tests::neg))]
+    #[tactic(auto, using(crate::proofs::AllRoundsLaws::accepts), unfolding(crate::specs::Acceptance::accepts_opening, crate::specs::Acceptance::opens))]
     pub fn accepts_opening(&self, value: u16) -> bool
         ensures { result ≡ accepts_opening limits self.now.n (heard limits self.now.delivered) self.now.round value }
     {

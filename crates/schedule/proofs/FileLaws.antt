@@ -6,10 +6,9 @@ use mathlib.Core.Path.{◌≡◌, refl, sym, ap, subst, ◌∙◌}
 use mathlib.Core.Bool.{true, false}
 use mathlib.Core.List.{List, [], ◌∷◌, ◌++◌}
 use mathlib.Core.Logic.{◌⊎◌, inl, inr, ⊎_elim}
-use lib.Dec.{leb}
 use lib.ListN.{length, drop, length-drop, length-append}
 use lib.Seq.{drop-append_seam}
-use Rattle.std.specs.Prelude.{if◌then◌else◌, Ok, Err}
+use Rattle.std.specs.Prelude.{if◌then◌else◌, Ok, Err, nat_le}
 use Rattle.std.proofs.lemmas.Bool.Decides.{nat_tests}
 use Rattle.signer.proofs.FromOneLaws.{within_in, within-zero, within-above, within_low, within-high}
 use Rattle.delivery.specs.Limits.{limits}
@@ -36,7 +35,7 @@ use Rattle.schedule.proofs.SectionLaws.{mark-is, marks-cut, marks-wrong, marks-f
 abbrev pub file : List ℕ → List Event → Contents
 file ms es = record { marks = ms; events = es }
 
-left-due : (f : Contents) (bs : List ℕ) → nothing_left f bs ≡ (if leb (length bs) 0 then got f [] else fault LeftOver)
+left-due : (f : Contents) (bs : List ℕ) → nothing_left f bs ≡ (if nat_le (length bs) 0 then got f [] else fault LeftOver)
 unfolding nothing_left
 left-due f [] = grind (arith, nat_tests)
 left-due f (b ∷ bs) = grind (arith, nat_tests)
@@ -46,7 +45,7 @@ abbrev pub back_tested : List ℕ → List ℕ → Reading Contents
 back_tested ms bs =
     let events = drop count_bytes bs in
     let k = count_at bs in
-    tested fault bs (if leb (length events) (event_bytes * k) then got (file ms (events_in k events)) [] else fault LeftOver)
+    tested fault bs (if nat_le (length events) (event_bytes * k) then got (file ms (events_in k events)) [] else fault LeftOver)
 
 module _ (n : ℕ) (ms : List ℕ) (f : Marked n ms) (bs : List ℕ) where
   bus-full : bus_due limits (n ∷ ms ++ bs) ≡ got ms bs

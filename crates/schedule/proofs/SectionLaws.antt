@@ -8,10 +8,9 @@ use borrow.Author.Tests.{lt-leb, leb-true, leb-false}
 use mathlib.Core.Path.{◌≡◌, refl, sym, ap, ◌∙◌}
 use mathlib.Core.Bool.{true, false}
 use mathlib.Core.List.{List, [], ◌∷◌, ◌++◌, append_assoc}
-use lib.Dec.{leb}
 use lib.ListN.{length, take, drop, get_or, set, replicate, length-drop, take-append-drop}
 use lib.Seq.{drop-drop}
-use Rattle.std.specs.Prelude.{if◌then◌else◌, Ok, Err}
+use Rattle.std.specs.Prelude.{if◌then◌else◌, Ok, Err, nat_le}
 use Rattle.std.proofs.lemmas.Bool.Decides.{nat_tests}
 use Rattle.std.proofs.lemmas.List.{length-take-le, take_more, drop_more, take_all, set_at}
 use Rattle.signer.proofs.FromOneLaws.{within-high}
@@ -124,7 +123,7 @@ pub ruleset marks_told = (none, marks-short, marks-none, marks-there, length-tak
 
 -- the first section by the tests of the call that reads it
 pub bus-read : (bs : List ℕ) → bus_of limits bs
-    ≡ (if leb 1 (length bs)
+    ≡ (if nat_le 1 (length bs)
     then (if is_board limits (get_or bs 0 0) then bus_from limits (marks_due (get_or bs 0 0) (take (length bs - 1) (drop 1 bs))) else Err NoBus)
     else Err EndsEarly)
 unfolding bus_due byte_due next bus_from
@@ -135,7 +134,7 @@ pub ruleset bus_tests = (bus-read, nat_tests, within-high)
 
 -- so many events are there, or they end early
 abbrev events_by : ℕ → List ℕ → Reading (List Event)
-events_by k bs = if leb (event_bytes * k) (length bs) then got (events_in k bs) (drop (event_bytes * k) bs) else fault EndsEarly
+events_by k bs = if nat_le (event_bytes * k) (length bs) then got (events_in k bs) (drop (event_bytes * k) bs) else fault EndsEarly
 
 events-next : (k : ℕ) (bs : List ℕ) → events_due k (drop event_bytes bs) ≡ events_by k (drop event_bytes bs)
     → events_due (suc k) bs ≡ events_by (suc k) bs
@@ -156,9 +155,9 @@ count_at bs = high_first (get_or bs 0 0) (get_or bs 1 0)
 
 abbrev pub tested : {A : Type 0} → (Fault → A) → List ℕ → A → A
 tested err bs x =
-    if leb count_bytes (length bs)
-    then (if leb (count_at bs) most_events
-    then (if leb (event_bytes * count_at bs) (length (drop count_bytes bs)) then x else err EndsEarly)
+    if nat_le count_bytes (length bs)
+    then (if nat_le (count_at bs) most_events
+    then (if nat_le (event_bytes * count_at bs) (length (drop count_bytes bs)) then x else err EndsEarly)
     else err TooMany)
     else err EndsEarly
 

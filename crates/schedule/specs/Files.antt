@@ -1,5 +1,5 @@
 -- What the bytes of a file mean. A file is read from the front, and the first fault that is met is its answer.
-use Rattle.std.specs.Prelude.{ℕ, zero, suc, ◌+◌, ◌*◌, List, [], ◌∷◌, leb, length, drop, Result, Ok, Err}
+use Rattle.std.specs.Prelude.{ℕ, zero, suc, ◌+◌, ◌*◌, List, [], ◌∷◌, length, drop, Result, Ok, Err, nat_le}
 use Rattle.std.specs.Prelude.{if◌then◌else◌}
 use Rattle.delivery.specs.Limits.{Limits}
 use Rattle.delivery.specs.Bus.{is_board}
@@ -75,11 +75,11 @@ count_due bs =
     (λ high rest.
     next
     (byte_due rest)
-    (λ low rest'. if leb (high_first high low) most_events then got (high_first high low) rest' else fault TooMany))
+    (λ low rest'. if nat_le (high_first high low) most_events then got (high_first high low) rest' else fault TooMany))
 
 -- an event, all of whose bytes are due
 unfoldable pub event_due : List ℕ → Reading Event
-event_due bs = if leb event_bytes (length bs) then got (event_from bs) (drop event_bytes bs) else fault EndsEarly
+event_due bs = if nat_le event_bytes (length bs) then got (event_from bs) (drop event_bytes bs) else fault EndsEarly
 
 abbrev pub events_due : ℕ → List ℕ → Reading (List Event)
 events_due k bs = many_due event_due k bs

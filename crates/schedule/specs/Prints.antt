@@ -1,5 +1,5 @@
 -- What is printed, as bytes.
-use Rattle.std.specs.Prelude.{ℕ, zero, suc, ◌+◌, ◌*◌, ◌/◌, ◌%◌, List, [], ◌∷◌, ◌++◌, leb, ltb, length, Result, Ok, Err}
+use Rattle.std.specs.Prelude.{ℕ, zero, suc, ◌+◌, ◌*◌, ◌/◌, ◌%◌, List, [], ◌∷◌, ◌++◌, length, Result, Ok, Err, nat_lt, nat_le}
 use Rattle.signer.specs.FromOne.{nth}
 use Rattle.std.specs.Prelude.{if◌then◌else◌}
 use Rattle.delivery.specs.Limits.{Limits}
@@ -18,7 +18,7 @@ digit d = 48 + d
 
 unfoldable pub decimal_in : ℕ → ℕ → List ℕ
 decimal_in zero m = []
-decimal_in (suc k) m = if ltb m 10 then digit m ∷ [] else decimal_in k (m / 10) ++ digit (m % 10) ∷ []
+decimal_in (suc k) m = if nat_lt m 10 then digit m ∷ [] else decimal_in k (m / 10) ++ digit (m % 10) ∷ []
 
 unfoldable pub decimal : ℕ → List ℕ
 decimal m = decimal_in (suc m) m
@@ -78,10 +78,10 @@ printed L bs = printed_from L (file_due L bs)
 -- The report puts it at the start of a lent buffer, and the rest of the buffer stays. Where there is too little room it
 -- writes nothing. Either way it says how many bytes there are to print.
 unfoldable pub report_from : List ℕ → ℕ → Result ℕ TooShort
-report_from text room = if leb (length text) room then Ok (length text) else Err (record { needed = length text })
+report_from text room = if nat_le (length text) room then Ok (length text) else Err (record { needed = length text })
 
 unfoldable pub buffer_from : List ℕ → List ℕ → List ℕ
-buffer_from text buf = if leb (length text) (length buf) then written text buf else buf
+buffer_from text buf = if nat_le (length text) (length buf) then written text buf else buf
 
 -- So much is printed at most: an event's line has four digits, a space, three digits and the line end, and a board's has
 -- one digit, its letter, three and five digits, three spaces and the line end.

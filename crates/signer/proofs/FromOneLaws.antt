@@ -2,13 +2,12 @@
 use Prim.Native.Nat.{ℕ, ◌+◌, ◌-◌, ◌≤◌, ◌<◌}
 use mathlib.Core.Path.{◌≡◌}
 use mathlib.Core.Bool.{true, false}
-use lib.Dec.{leb}
 use mathlib.Core.List.{List}
 use mathlib.Core.Logic.{◌⊎◌}
 use native.Mathlib.Omega.{arith}
 use lib.ListN.{length, get_or, set, replicate, length-set, length-replicate}
 use lib.Seq.{get_or-set_other, set_out}
-use Rattle.std.specs.Prelude.{None, Some, unwrap_or}
+use Rattle.std.specs.Prelude.{None, Some, unwrap_or, nat_le}
 use Rattle.std.proofs.lemmas.Bool.Decides.{nat_tests}
 use Rattle.std.proofs.lemmas.Grind.{get_or-set_at}
 use Rattle.std.proofs.lemmas.List.{get_or_default, get_or_past, get_or-replicate}
@@ -26,7 +25,7 @@ module _ (limit k : ℕ) where
   within-high h = grind (arith, nat_tests)
 
   -- from 1 on, only the limit is left to test
-  pub within-test : 1 ≤ k → is_within limit k ≡ leb k limit
+  pub within-test : 1 ≤ k → is_within limit k ≡ nat_le k limit
   unfolding is_within
   within-test l = grind (arith, nat_tests)
 

@@ -2,6 +2,5 @@ pub mod FromOneLaws
 pub mod ConditionalLaws
 pub mod LogLaws
 pub mod SignerLaws
-pub mod GrantLaws
 pub mod HistoryLaws
 pub mod ExampleLaws

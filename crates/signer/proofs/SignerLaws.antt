@@ -1,12 +1,10 @@
 -- Laws of one request. Assumes nothing.
-use Prim.Native.Nat.{ℕ, ◌≤◌, ◌<◌}
+use Prim.Native.Nat.{ℕ, ◌-◌, ◌≤◌, ◌<◌}
 use native.Mathlib.Omega.{arith}
 use mathlib.Core.Path.{◌≡◌, refl}
 use mathlib.Core.Bool.{true, false}
-use mathlib.Core.Logic.{◌⊎◌}
-use lib.Dec.{eqb}
 use lib.ListN.{length-replicate}
-use Rattle.std.specs.Prelude.{if◌then◌else◌}
+use Rattle.std.specs.Prelude.{if◌then◌else◌, ◌==◌}
 use Rattle.std.proofs.lemmas.Bool.Decides.{nat_tests}
 use Rattle.signer.specs.FromOne.{is_within}
 use Rattle.signer.specs.Log.{is_identifier, entry_of, empty_log, entry_at, with_entry}
@@ -70,22 +68,13 @@ module _ (limit : ℕ) (s : Signer) (i v : ℕ) where
   sign-last h = grind arith
 
   pub granted-entry : WellFormed limit s → grants limit s i ≡ true → (j : ℕ)
-      → entry_at (sign limit s i v).signer.log j ≡ (if eqb j i then entry_of v else entry_at s.log j)
+      → entry_at (sign limit s i v).signer.log j ≡ (if j == i then entry_of v else entry_at s.log j)
   unfolding sign grants is_within entry_at with_entry
   granted-entry w g j = let size = w.whole.whole in grind (arith, nat_tests, nth-set-same, nth-set-other)
 
-  -- so, granted or refused, what stands is what stood before and what was just granted
-  pub sign-stands : WellFormed limit s → grants limit s i ≡ true → Signed (sign limit s i v).signer i v
-  sign-stands w h = grind (arith, nat_tests, granted-entry)
-
-  pub sign-keeps : WellFormed limit s → (j u : ℕ) → Signed s j u → Signed (sign limit s i v).signer j u
-  unfolding sign grants
-  sign-keeps w j u h = grind (arith, nat_tests, granted-entry w, w.capped j u)
-
-  pub sign-only : WellFormed limit s → (j u : ℕ) → Signed (sign limit s i v).signer j u
-      → Signed s j u ⊎ ((grants limit s i ≡ true) × (j ≡ i) × (u ≡ v))
-  unfolding sign
-  sign-only w j u h = grind (arith, nat_tests, granted-entry w)
+  -- and nothing stood there
+  pub granted-new : WellFormed limit s → grants limit s i ≡ true → entry_at s.log i ≡ 0
+  granted-new w g = grind (arith, w.capped i (entry_at s.log i - 1), grants-only limit s i)
 
   -- and a signer stays well-formed
   pub sign-wellformed : WellFormed limit s → WellFormed limit (sign limit s i v).signer

@@ -1,9 +1,9 @@
 -- Numbers from 1 to a limit, as document 01 numbers whatever it counts, and lists numbered so.
-use Rattle.std.specs.Prelude.{ℕ, zero, suc, Bool, ◌&&◌, List, Option, None, leb, slice_index_or, slice_set, slice_get}
+use Rattle.std.specs.Prelude.{ℕ, zero, suc, Bool, ◌&&◌, List, Option, None, slice_index_or, slice_set, slice_get, nat_le}
 
 -- k is a number from 1 to the limit
 unfoldable pub is_within : ℕ → ℕ → Bool
-is_within limit k = leb 1 k && leb k limit
+is_within limit k = nat_le 1 k && nat_le k limit
 
 -- element k, where there is one
 unfoldable pub get : {A : Type 0} → List A → ℕ → Option A

@@ -1,6 +1,6 @@
 -- Document 01, "Words and sizes": values, identifiers, and what one speaker said under each identifier.
 -- A definition that depends on how many identifiers there are takes that number as `limit`.
-use Rattle.std.specs.Prelude.{ℕ, zero, suc, Bool, leb, replicate}
+use Rattle.std.specs.Prelude.{ℕ, zero, suc, Bool, replicate, nat_le}
 use Rattle.std.specs.Prelude.{if◌then◌else◌}
 use Rattle.signer.specs.FromOne.{is_within, nth, set_nth}
 use Rattle.signer.specs.declared.log.Log.{Log}
@@ -25,7 +25,7 @@ entry_of v = suc v
 -- the value that an entry stands for; the blank where it stands for none
 unfoldable pub value_of : ℕ → ℕ
 value_of zero = 0
-value_of (suc v) = if leb v values then v else 0
+value_of (suc v) = if nat_le v values then v else 0
 
 -- a speaker that has said nothing
 unfoldable pub empty_log : ℕ → Log

@@ -1,5 +1,5 @@
 -- Document 01, "Signer": first a fresh signer and what one request does, then a list of requests.
-use Rattle.std.specs.Prelude.{ℕ, ◌≡◌, Bool, true, false, ◌&&◌, ltb}
+use Rattle.std.specs.Prelude.{ℕ, ◌≡◌, Bool, true, false, ◌&&◌, nat_lt}
 use mathlib.Core.List.{List, [], ◌∷◌, Memᴰ}
 use Rattle.std.specs.Prelude.{if◌then◌else◌}
 use Rattle.signer.specs.Log.{entry_of, is_identifier, empty_log, entry_at, with_entry}
@@ -15,7 +15,7 @@ Signed s i v = entry_at s.log i ≡ entry_of v
 
 -- a request under i is granted if i is an identifier above `last`; the value plays no part
 unfoldable pub grants : ℕ → Signer → ℕ → Bool
-grants limit s i = is_identifier limit i && ltb s.last.0 i
+grants limit s i = is_identifier limit i && nat_lt s.last.0 i
 
 -- what comes of a request: the signer afterwards, and whether it signed
 pub record Signing : Type 0 where

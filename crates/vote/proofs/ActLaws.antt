@@ -1,5 +1,6 @@
 -- A turn and what is said of it in words say the same. This goes by no law of the rule or of a turn, which would only
 -- say their definitions again. Assumes nothing.
+use Rattle.std.specs.Prelude.{◌||◌}
 use Prim.Native.Nat.{ℕ, ◌≤◌}
 use native.Mathlib.Omega.{arith}
 use mathlib.Core.Path.{◌≡◌, refl, subst}
@@ -7,7 +8,6 @@ use mathlib.Core.Bool.{true}
 use mathlib.Core.Logic.{◌↔◌}
 use Rattle.std.proofs.lemmas.Bool.Decides.{nat_tests}
 use Rattle.signer.proofs.FromOneLaws.{within_in, within-high}
-use Rattle.delivery.specs.Tests.{◌and◌, ◌or◌, neg}
 use Rattle.delivery.specs.Limits.{limits}
 use Rattle.delivery.specs.Bus.{quorum, overlap}
 use Rattle.delivery.specs.Rounds.{is_round}
@@ -64,14 +64,14 @@ module _ (n me : ℕ) (p : Position) (h : Store) (some : 1 ≤ n) (fit : OfValue
 
   -- who may vote, and count, by either text
   votes : (may_vote limits n p h ≡ true) ↔ MayVote n me p h
-  unfolding may_vote ◌or◌ neg
+  unfolding may_vote
   votes = (grind (arith, nat_tests), grind (arith, nat_tests))
 
   counts : (may_count limits n p h ≡ true) ↔ MayCount n me p h
-  unfolding may_count ◌and◌ ◌or◌
+  unfolding may_count
   counts =
-      let e = every-reads n (λ (s : ℕ). accepts_some limits n h r s or in_set p.suspected s) in
-      let f = reads-every n (λ (s : ℕ). accepts_some limits n h r s or in_set p.suspected s) in (
+      let e = every-reads n (λ (s : ℕ). accepts_some limits n h r s || in_set p.suspected s) in
+      let f = reads-every n (λ (s : ℕ). accepts_some limits n h r s || in_set p.suspected s) in (
         λ t. record { enough = grind (arith, nat_tests); rest = λ s l u. let x = e (grind arith) s l u in grind arith },
         λ c. grind (arith, nat_tests),
       )

@@ -4,12 +4,10 @@ use native.Mathlib.Omega.{arith}
 use mathlib.Core.Path.{◌≡◌, refl, sym, ◌∙◌}
 use mathlib.Core.Bool.{Bool, true, false, ◌&&◌}
 use mathlib.Core.Logic.{◌⊎◌, inr}
-use lib.Dec.{eqb, leb}
-use Rattle.std.specs.Prelude.{if◌then◌else◌}
+use Rattle.std.specs.Prelude.{if◌then◌else◌, ◌==◌, nat_le, not}
 use Rattle.std.proofs.lemmas.Bool.Decides.{nat_tests}
 use Rattle.signer.specs.Log.{values, entry_of}
 use Rattle.signer.proofs.LogLaws.{value-entry, value-within, entry_value}
-use Rattle.delivery.specs.Tests.{◌and◌, neg}
 use Rattle.delivery.specs.Counting.{count_in}
 use Rattle.delivery.specs.Limits.{Limits}
 use Rattle.delivery.specs.Bus.{quorum}
@@ -103,18 +101,18 @@ module _ (L : Limits) (n : ℕ) (h : Store) (r : ℕ) where
   -- so a value that m or more ballots bear, and one at least, can be no other
   with-some : (m : ℕ) → (opened ≡ 0 → ⊥) → 1 ≤ tally L n h r opened → m ≤ tally L n h r opened
       → value_with L n h r m ≡ 0 → ⊥
-  unfolding value_with tally ◌and◌ neg
+  unfolding value_with tally
   with-some m z l g =
       let k = find n (λ (s : ℕ). accepts_ballot L n h r s opened) l in
       let e = opened-borne k.0 k.3 in
-      let y = some-passes n (borne_by L n h r) (λ (w : ℕ). neg (eqb w 0) and leb m (tally L n h r w)) k.0 k.1 k.2 in
+      let y = some-passes n (borne_by L n h r) (λ (w : ℕ). not (w == 0) && nat_le m (tally L n h r w)) k.0 k.1 k.2 in
       grind (arith, nat_tests)
 
   pub with-opened : (m : ℕ)
-      → value_with L n h r m ≡ (if leb 1 (tally L n h r opened) && leb m (tally L n h r opened) then opened else 0)
-  unfolding value_with tally ◌and◌ neg
+      → value_with L n h r m ≡ (if nat_le 1 (tally L n h r opened) && nat_le m (tally L n h r opened) then opened else 0)
+  unfolding value_with tally
   with-opened m =
-      let x = some-found n (borne_by L n h r) (λ (w : ℕ). neg (eqb w 0) and leb m (tally L n h r w)) in
+      let x = some-found n (borne_by L n h r) (λ (w : ℕ). not (w == 0) && nat_le m (tally L n h r w)) in
       let y = with-some m in
       let g = count-some n (λ (s : ℕ). accepts_ballot L n h r s opened) in
       grind (arith, nat_tests, borne-opened)

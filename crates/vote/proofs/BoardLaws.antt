@@ -5,7 +5,6 @@ use native.Mathlib.Omega.{arith}
 use mathlib.Core.Path.{◌≡◌, refl}
 use mathlib.Core.Bool.{true, false}
 use Rattle.std.proofs.lemmas.Bool.Decides.{nat_tests}
-use Rattle.delivery.specs.Tests.{◌and◌, ◌or◌, neg}
 use Rattle.delivery.specs.Limits.{Limits}
 use Rattle.delivery.specs.Delivered.{nothing_delivered, heard, deliver}
 use Rattle.delivery.specs.Sets.{with_board, without_board}
@@ -30,7 +29,7 @@ pub record Convinced (L : Limits) (n : ℕ) (b : Board) (r v : ℕ) : Type 0 whe
   pub won : Won L n (heard L b.delivered) r v
 
 pub reads-convinced : (L : Limits) (n : ℕ) (b : Board) (r v : ℕ) → Convinced L n b r v → convinced L n b r v ≡ true
-unfolding convinced is_decided tally ◌and◌ neg
+unfolding convinced is_decided tally
 reads-convinced L n b r v c = grind (arith, nat_tests)
 
 -- what the program goes by where it tests
@@ -58,11 +57,11 @@ module _ (L : Limits) where
 module _ (b : Board) (v : ℕ) where
   pub propose-starts : is_started b.status ≡ false → (v ≡ 0 → ⊥)
       → propose b v ≡ placed b (record { 0 = 1 }) v Open b.delivered Voting
-  unfolding propose starting_with ◌or◌
+  unfolding propose starting_with
   propose-starts s z = grind (arith, nat_tests)
 
   pub propose-position : is_started b.status ≡ false → (v ≡ 0 → ⊥) → (propose b v).position ≡ starting_with b.position v
-  unfolding propose ◌or◌
+  unfolding propose
   propose-position u z = grind (arith, nat_tests)
 
   pub starting-estimate : (p : Position) → (starting_with p v).estimate ≡ v

@@ -3,11 +3,9 @@ use Prim.Native.Nat.{ℕ}
 use native.Mathlib.Omega.{arith}
 use mathlib.Core.Path.{◌≡◌}
 use mathlib.Core.Bool.{true, false}
-use lib.Dec.{eqb}
-use Rattle.std.specs.Prelude.{Option, None, Some, Ok, IfSome, if◌then◌else◌}
+use Rattle.std.specs.Prelude.{Option, None, Some, Ok, IfSome, if◌then◌else◌, ◌==◌, ◌&&◌}
 use Rattle.std.proofs.lemmas.Bool.Decides.{nat_tests}
 use Rattle.signer.specs.Log.{is_identifier, entry_of}
-use Rattle.delivery.specs.Tests.{◌and◌, ◌or◌}
 use Rattle.delivery.specs.Limits.{Limits}
 use Rattle.delivery.specs.Bus.{is_board}
 use Rattle.delivery.specs.Sets.{with_board, without_board}
@@ -59,7 +57,7 @@ module _ (L : Limits) (n me : ℕ) (b : Board) where
 
   -- it leaves just that
   pub taken-leaves : (c : Call) → Taken c → called L n me b c ≡ left c
-  unfolding called propose deliver_to announce suspect trust turn turn_in with_status ◌or◌
+  unfolding called propose deliver_to announce suspect trust turn turn_in with_status
   taken-leaves (proposal v) t = grind (arith, nat_tests)
   taken-leaves own_turn t = grind arith
   taken-leaves (delivery s) t = grind arith
@@ -89,8 +87,8 @@ pub record New (L : Limits) (d : Delivered) (s i : ℕ) : Type 0 where
 
 -- it is then heard, and all else as before
 pub hears-new : (L : Limits) (d : Delivered) (x : Statement) → Whole L d → New L d x.speaker x.id.0 → (s i : ℕ)
-    → heard L (hears L d x) s i ≡ (if eqb s x.speaker and eqb i x.id.0 then entry_of x.value else heard L d s i)
-unfolding hears ◌and◌
+    → heard L (hears L d x) s i ≡ (if s == x.speaker && i == x.id.0 then entry_of x.value else heard L d s i)
+unfolding hears
 hears-new L d x w n s i = grind (arith, nat_tests, deliver-same, deliver-other)
 
 -- a board hears what it says itself, if it says anything

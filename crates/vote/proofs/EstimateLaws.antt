@@ -7,7 +7,6 @@ use mathlib.Core.List.{List, [], ◌∷◌}
 use Rattle.std.proofs.lemmas.Bool.Decides.{nat_tests}
 use Rattle.signer.specs.Log.{values, entry_of}
 use Rattle.signer.proofs.FromOneLaws.{within_low}
-use Rattle.delivery.specs.Tests.{◌and◌, ◌or◌, neg}
 use Rattle.delivery.specs.Counting.{count_in}
 use Rattle.delivery.specs.Limits.{Limits}
 use Rattle.delivery.specs.Bus.{quorum, overlap}
@@ -79,7 +78,7 @@ fresh-admitted L n = grind (arith, heard-nothing)
 pub called-admitted : (L : Limits) (n me : ℕ) (b : Board) → 1 ≤ n → Proper L b → Admitted L n b → (c : Call) → Fits c
     → Admitted L n (called L n me b c)
 unfolding called propose starting_with deliver_to hears announce convinced with_status suspect trust turn turn_in
-    position_after at_stage status_after said_in hears_own is_started ◌and◌ ◌or◌ neg
+    position_after at_stage status_after said_in hears_own is_started
 called-admitted L n me b some p a c f =
     let h = heard L b.delivered in
     let m = rule-makes L n me b.position h in

@@ -7,7 +7,6 @@ use mathlib.Core.Logic.{◌⊎◌}
 use Rattle.std.specs.Prelude.{Option, None, Some, IfSome}
 use Rattle.std.proofs.lemmas.Bool.Decides.{nat_tests}
 use Rattle.signer.proofs.FromOneLaws.{within_in}
-use Rattle.delivery.specs.Tests.{◌and◌, ◌or◌, neg}
 use Rattle.delivery.specs.Limits.{Limits}
 use Rattle.delivery.specs.Delivered.{Store, heard}
 use Rattle.delivery.proofs.AgreementLaws.{Won}
@@ -33,19 +32,18 @@ store L b = heard L b.delivered
 module _ (L : Limits) (n me : ℕ) (b : Board) where
   -- what it has delivered grows
   pub called-grows : (c : Call) → Grows (store L b) (store L (called L n me b c))
-  unfolding called propose deliver_to hears announce with_status suspect trust turn turn_in hears_own ◌or◌
+  unfolding called propose deliver_to hears announce with_status suspect trust turn turn_in hears_own
   called-grows c = grind (arith, grows_same, deliver-grows)
 
   -- a decision is final
   pub called-final : (d : Decision) → b.status ≡ Decided d → (c : Call) → (called L n me b c).status ≡ Decided d
-  unfolding called propose deliver_to announce convinced suspect trust turn turn_in is_started is_decided ◌and◌ ◌or◌ neg
+  unfolding called propose deliver_to announce convinced suspect trust turn turn_in is_started is_decided
   called-final d e c = grind arith
 
   -- and whoever makes one, by its turn or by an announcement, has q accepted ballots with the value
   pub called-won : (c : Call) (d : Decision) → (called L n me b c).status ≡ Decided d
       → (b.status ≡ Decided d) ⊎ Won L n (store L b) d.round.0 d.value
-  unfolding called propose deliver_to announce convinced with_status suspect trust turn turn_in status_after ◌and◌ ◌or◌
-      neg
+  unfolding called propose deliver_to announce convinced with_status suspect trust turn turn_in status_after
   called-won c d e = let m = rule-makes L n me b.position (store L b) in grind (arith, nat_tests, tally-won)
 
 -- a board that has decided has q accepted ballots with its value
@@ -79,7 +77,7 @@ module _ (L : Limits) (n me : ℕ) (b : Board) (p : Proper L b) where
   -- what is due rises, and what is signed lies between
   pub called-due : (c : Call) → due L b ≤ due L (called L n me b c)
   unfolding due due_at called propose starting_with deliver_to announce convinced with_status suspect trust turn turn_in
-      position_after at_stage status_after is_started ◌and◌ ◌or◌ neg
+      position_after at_stage status_after is_started
   called-due c =
       let m = rule-makes L n me b.position (store L b) in
       let r = p.round in

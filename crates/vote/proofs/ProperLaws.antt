@@ -6,7 +6,6 @@ use mathlib.Core.Path.{◌≡◌}
 use mathlib.Core.Bool.{true}
 use Rattle.std.proofs.lemmas.Bool.Decides.{nat_tests}
 use Rattle.signer.proofs.FromOneLaws.{within-high, within_in}
-use Rattle.delivery.specs.Tests.{◌and◌, ◌or◌, neg}
 use Rattle.delivery.specs.Limits.{Limits}
 use Rattle.delivery.specs.Rounds.{is_round}
 use Rattle.delivery.specs.Delivered.{heard}
@@ -39,7 +38,7 @@ module _ (L : Limits) (b : Board) (p : Proper L b) where
   -- every call keeps it, where there is a round at all
   pub called-proper : (n me : ℕ) → 1 ≤ L.rounds → (c : Call) → Proper L (called L n me b c)
   unfolding called propose starting_with deliver_to hears announce convinced with_status suspect trust turn turn_in
-      position_after at_stage status_after hears_own is_started ◌and◌ ◌or◌ neg
+      position_after at_stage status_after hears_own is_started
   called-proper n me some c =
       let m = rule-makes L n me b.position (heard L b.delivered) in
       record {

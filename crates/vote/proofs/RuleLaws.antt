@@ -4,11 +4,9 @@ use native.Mathlib.Omega.{arith}
 use mathlib.Core.Path.{◌≡◌, ap, ◌∙◌}
 use mathlib.Core.Bool.{Bool, true, false}
 use mathlib.Core.Logic.{◌⊎◌}
-use lib.Dec.{eqb}
-use Rattle.std.specs.Prelude.{if◌then◌else◌, min}
+use Rattle.std.specs.Prelude.{if◌then◌else◌, min, ◌==◌, ◌||◌}
 use Rattle.std.proofs.lemmas.Bool.Decides.{nat_tests}
 use Rattle.signer.proofs.FromOneLaws.{within-high}
-use Rattle.delivery.specs.Tests.{◌and◌, ◌or◌, neg}
 use Rattle.delivery.specs.Counting.{count_in}
 use Rattle.delivery.specs.Limits.{Limits}
 use Rattle.delivery.specs.Bus.{is_board, quorum, overlap}
@@ -35,8 +33,8 @@ use Rattle.vote.proofs.BallotLaws.{with-opened, tally-won}
 -- stage B, as the program asks
 pub may-vote : (L : Limits) (n : ℕ) (p : Position) (h : Store)
     → may_vote L n p h
-    ≡ (if eqb (opening_entry L n h p.round.0) 0 then in_set p.suspected (coordinator n p.round.0) else true)
-unfolding may_vote ◌or◌ neg
+    ≡ (if opening_entry L n h p.round.0 == 0 then in_set p.suspected (coordinator n p.round.0) else true)
+unfolding may_vote
 may-vote L n p h = grind (arith, nat_tests)
 
 -- Stage C by sets, as the program counts: m is that of the boards with an accepted ballot. Only boards that there can
@@ -65,15 +63,15 @@ module _ (L : Limits) (n : ℕ) (p : Position) (d : Delivered) (m : ℕ) where
       omega (arith, c, count_set n k accepted (omega arith), count-le k accepted)
 
   pub count-few_in : m ≡ set_of n accepted → count_in n (in_set m) < quorum n → may_count L n p (heard L d) ≡ false
-  unfolding may_count ◌and◌
+  unfolding may_count
   count-few_in e l = let c = counted e in grind (arith, nat_tests)
 
   pub count-enough_in : 2 * L.boards ≤ bits → m ≡ set_of n accepted → quorum n ≤ count_in n (in_set m)
-      → may_count L n p (heard L d) ≡ eqb (count_in n (in_set (union m p.suspected))) n
-  unfolding may_count ◌and◌
+      → may_count L n p (heard L d) ≡ ((count_in n (in_set (union m p.suspected))) == n)
+  unfolding may_count
   count-enough_in b e l =
       let fits : n ≤ bits = omega (arith, few-accepted e) in
-      let present = λ (s : ℕ). accepted s or in_set p.suspected s in
+      let present = λ (s : ℕ). accepted s || in_set p.suspected s in
       let c = counted e in
       let u = every-counted n present in
       let same =
@@ -110,7 +108,7 @@ module _ (L : Limits) (n me : ℕ) (p : Position) (h : Store) where
   Makes (Expires v) = (p.stage ≡ Count) × (L.rounds ≤ p.round.0) × Next L n p h v
 
   pub rule-makes : Makes (rule L n me p h)
-  unfolding rule move_at open_move vote_move may_count next_estimate onward count_move ◌and◌
+  unfolding rule move_at open_move vote_move may_count next_estimate onward count_move
   rule-makes = grind (arith, nat_tests, with-opened, tally-won)
 
 -- what the program goes by to tell who may vote, and count

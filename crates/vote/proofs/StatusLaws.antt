@@ -5,7 +5,6 @@ use mathlib.Core.Logic.{◌⊎◌}
 use mathlib.Core.Path.{◌≡◌, refl}
 use mathlib.Core.Bool.{true, false}
 use Rattle.std.proofs.lemmas.Bool.Decides.{nat_tests}
-use Rattle.delivery.specs.Tests.{◌and◌}
 use Rattle.vote.specs.Boards.{is_started, is_decided, is_ended, has_decided, decision_of}
 use Rattle.vote.specs.Turns.{status_after}
 use Rattle.vote.specs.declared.rule.Move.{Move}
@@ -65,11 +64,11 @@ decided-one d c e = cc
 
 -- whether it has decided a value in a round
 pub has-decided : (s : Status) (r v : ℕ) → has_decided s r v ≡ true → s ≡ Decided (decision_of r v)
-unfolding has_decided ◌and◌
+unfolding has_decided
 has-decided s r v h = grind (arith, nat_tests)
 
 pub decided-has : (s : Status) (r v : ℕ) → s ≡ Decided (decision_of r v) → has_decided s r v ≡ true
-unfolding has_decided ◌and◌
+unfolding has_decided
 decided-has s r v e = grind (arith, nat_tests)
 
 -- the move that makes a board decide

@@ -1,7 +1,6 @@
 -- Document 01, "A board's turns" and "Events" (kind 4): a decision by announcement.
-use Rattle.std.specs.Prelude.{ℕ, Bool, eqb, leb}
+use Rattle.std.specs.Prelude.{ℕ, Bool, ◌==◌, nat_le, ◌&&◌, not}
 use Rattle.std.specs.Prelude.{if◌then◌else◌}
-use Rattle.delivery.specs.Tests.{◌and◌, neg}
 use Rattle.delivery.specs.Limits.{Limits}
 use Rattle.delivery.specs.Bus.{quorum}
 use Rattle.delivery.specs.Delivered.{heard}
@@ -15,9 +14,9 @@ use Rattle.vote.specs.declared.board.Status.TheVariants.{Decided}
 unfoldable pub convinced : Limits → ℕ → Board → ℕ → ℕ → Bool
 convinced L n b r v =
     is_started b.status
-    and neg (is_decided b.status)
-    and neg (eqb v 0)
-    and leb (quorum n) (tally L n (heard L b.delivered) r v)
+    && not (is_decided b.status)
+    && not (v == 0)
+    && nat_le (quorum n) (tally L n (heard L b.delivered) r v)
 
 -- then it decides v in round r, and is no longer spent if it was; otherwise it is as before
 unfoldable pub announce : Limits → ℕ → Board → ℕ → ℕ → Board

@@ -1,8 +1,7 @@
 -- Document 01, "A board's turns", stages B and C: what the statements of a round that a board accepts come to.
-use Rattle.std.specs.Prelude.{ℕ, zero, suc, Bool, eqb, leb}
+use Rattle.std.specs.Prelude.{ℕ, zero, suc, Bool, ◌==◌, nat_le, ◌&&◌, not}
 use Rattle.std.specs.Prelude.{if◌then◌else◌}
 use Rattle.signer.specs.Log.{value_of}
-use Rattle.delivery.specs.Tests.{◌and◌, neg}
 use Rattle.delivery.specs.Counting.{count_in}
 use Rattle.delivery.specs.Limits.{Limits}
 use Rattle.delivery.specs.Delivered.{Store}
@@ -30,4 +29,4 @@ module _ (L : Limits) (n : ℕ) (h : Store) (r : ℕ) where
   -- the value other than the blank that m or more accepted ballots bear, or the blank where there is none. There can be
   -- only one, so it does not matter in which order they are looked through.
   unfoldable pub value_with : ℕ → ℕ
-  value_with m = some_value n borne_by (λ (w : ℕ). neg (eqb w 0) and leb m (tally w))
+  value_with m = some_value n borne_by (λ (w : ℕ). not (w == 0) && nat_le m (tally w))

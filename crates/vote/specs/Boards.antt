@@ -1,8 +1,7 @@
 -- Document 01, "A board's turns", "Delivery" and "Events": what a board holds, how it starts, and what reaches it from
 -- outside, statements and suspicions.
-use Rattle.std.specs.Prelude.{ℕ, Bool, true, false, eqb}
+use Rattle.std.specs.Prelude.{ℕ, Bool, true, false, ◌==◌, ◌&&◌, ◌||◌}
 use Rattle.std.specs.Prelude.{if◌then◌else◌}
-use Rattle.delivery.specs.Tests.{◌and◌, ◌or◌}
 use Rattle.delivery.specs.Limits.{Limits}
 use Rattle.delivery.specs.Sets.{with_board, without_board}
 use Rattle.delivery.specs.Delivered.{nothing_delivered, deliver}
@@ -52,7 +51,7 @@ unfoldable pub has_decided : Status → ℕ → ℕ → Bool
 has_decided Idle r v = false
 has_decided Voting r v = false
 has_decided Spent r v = false
-has_decided (Decided d) r v = eqb d.round.0 r and eqb d.value v
+has_decided (Decided d) r v = d.round.0 == r && d.value == v
 
 -- the same board with another status: its round, estimate and stage stay
 unfoldable pub with_status : Board → Status → Board
@@ -65,7 +64,7 @@ starting_with p v = record p { round = record { 0 = 1 }; estimate = v; stage = O
 
 unfoldable pub propose : Board → ℕ → Board
 propose b v =
-    if is_started b.status or eqb v 0
+    if is_started b.status || v == 0
     then b
     else record b { position = starting_with b.position v; status = Voting }
 

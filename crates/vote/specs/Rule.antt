@@ -1,8 +1,7 @@
 -- Document 01, "A board's turns": what board `me` of n does in its turn, by its position p and the store h of what it
 -- has delivered.
-use Rattle.std.specs.Prelude.{ℕ, Bool, eqb, leb, ltb}
+use Rattle.std.specs.Prelude.{ℕ, Bool, ◌==◌, nat_lt, nat_le, ◌&&◌, ◌||◌, not}
 use Rattle.std.specs.Prelude.{if◌then◌else◌}
-use Rattle.delivery.specs.Tests.{◌and◌, ◌or◌, neg}
 use Rattle.delivery.specs.Counting.{count_in, every_in}
 use Rattle.delivery.specs.Limits.{Limits}
 use Rattle.delivery.specs.Bus.{quorum, overlap}
@@ -19,7 +18,7 @@ use Rattle.vote.specs.declared.rule.Move.TheVariants.{Waits, Passes, Opens, Ball
 
 -- Stage A: the round's coordinator opens it with its own estimate, and any other board goes on without a word.
 unfoldable pub open_move : ℕ → ℕ → Position → Move
-open_move n me p = if eqb me (coordinator n p.round.0) then Opens p.estimate else Passes
+open_move n me p = if me == coordinator n p.round.0 then Opens p.estimate else Passes
 
 module _ (L : Limits) (n : ℕ) (p : Position) (h : Store) where
   abbrev r : ℕ
@@ -28,7 +27,7 @@ module _ (L : Limits) (n : ℕ) (p : Position) (h : Store) where
   -- Stage B, when the board may vote: the coordinator's opening has arrived, whatever it bears, or the coordinator is
   -- suspected.
   unfoldable pub may_vote : Bool
-  may_vote = neg (eqb (opening_entry L n h r) 0) or in_set p.suspected (coordinator n r)
+  may_vote = not (opening_entry L n h r == 0) || in_set p.suspected (coordinator n r)
 
   -- Stage B: until it may vote, the board waits. Then it gives its ballot, for the opening's value if it accepts the
   -- opening, and otherwise blank.
@@ -39,8 +38,8 @@ module _ (L : Limits) (n : ℕ) (p : Position) (h : Store) where
   -- ballot is suspected.
   unfoldable pub may_count : Bool
   may_count =
-      leb (quorum n) (count_in n (accepts_some L n h r))
-      and every_in n (λ (s : ℕ). accepts_some L n h r s or in_set p.suspected s)
+      nat_le (quorum n) (count_in n (accepts_some L n h r))
+      && every_in n (λ (s : ℕ). accepts_some L n h r s || in_set p.suspected s)
 
   -- The value that q or more of the ballots bear, which the board decides; and the next estimate, which is the value that
   -- e or more bear. If no value has so many, the estimate stays.
@@ -51,16 +50,16 @@ module _ (L : Limits) (n : ℕ) (p : Position) (h : Store) where
   carried = value_with L n h r (overlap n)
 
   unfoldable pub next_estimate : ℕ
-  next_estimate = if eqb carried 0 then p.estimate else carried
+  next_estimate = if carried == 0 then p.estimate else carried
 
   -- Where it decides nothing it goes to the next round with that estimate; in the last round it takes the estimate, and
   -- is spent.
   unfoldable pub onward : Move
-  onward = if ltb r L.rounds then Advances next_estimate else Expires next_estimate
+  onward = if nat_lt r L.rounds then Advances next_estimate else Expires next_estimate
 
   -- Stage C: until it may count, the board waits.
   unfoldable pub count_move : Move
-  count_move = if may_count then (if eqb chosen 0 then onward else Decides chosen) else Waits
+  count_move = if may_count then (if chosen == 0 then onward else Decides chosen) else Waits
 
 -- the rule of a turn, by the stage
 unfoldable pub move_at : Limits → ℕ → ℕ → Position → Store → Stage → Move

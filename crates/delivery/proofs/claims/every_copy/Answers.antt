@@ -1,7 +1,6 @@
 -- Each claim is a law, or what the laws of its subject say together. Assumes nothing.
 use native.Mathlib.Omega.{arith}
 use Rattle.std.proofs.lemmas.Bool.Decides.{nat_tests}
-use Rattle.delivery.specs.Tests.{◌and◌, ◌or◌, neg}
 use Rattle.delivery.specs.Limits.{limits}
 use Rattle.delivery.specs.Sets.{bits}
 use Rattle.delivery.specs.Owed.{lacks}
@@ -21,7 +20,7 @@ sets : (o : Owed) → owed.Whole limits o → HasSets o
 sets o w = record { speakers = w.size; identifiers = w.each }
 
 pub returns : goal.returns
-unfolding lacks ◌and◌ ◌or◌ neg
+unfolding lacks
 returns c =
     record {
       nothing_delivered = ((delivered.nothing-whole limits).size, delivered.heard-nothing limits);

@@ -5,7 +5,6 @@ use mathlib.Core.Bool.{Bool}
 use Rattle.std.proofs.lemmas.Bool.Decides.{nat_tests}
 use Rattle.delivery.specs.Limits.{limits}
 use Rattle.delivery.specs.Delivered.{Store}
-use Rattle.delivery.specs.Tests.{neg}
 use Rattle.delivery.specs.Claims.{Leaves}
 use Rattle.delivery.proofs.CountLaws.{sizes-fit, quorums-share, overlap-pos}
 use Rattle.delivery.proofs.RoundLaws.{coordinator-turns}
@@ -20,7 +19,6 @@ leaves : (n : ℕ) (h : Store) (r w : ℕ) (p : ℕ → Bool) → Leaves n h r w
 leaves n h r w p l = record { accepted = l.accepted; reason = l.reason }
 
 pub returns : goal.returns
-unfolding neg
 returns c =
     record {
       sizes = sizes-fit;

@@ -5,7 +5,6 @@ use mathlib.Core.Path.{◌≡◌}
 use lib.ListN.{length}
 use Rattle.std.proofs.lemmas.Bool.Decides.{nat_tests}
 use Rattle.delivery.specs.Limits.{limits}
-use Rattle.delivery.specs.Tests.{neg}
 use Rattle.delivery.proofs.SetLaws.{set-none, set-take, set-leave}
 use Rattle.bench.proofs.BenchLaws.{holds-at}
 use Rattle.bench.proofs.bench.Bench.holders.Goals as goal
@@ -14,7 +13,6 @@ pub loop-i-init : goal.loop-i-init
 loop-i-init c = grind (arith, set-none)
 
 pub loop-i-preserved : goal.loop-i-preserved
-unfolding neg
 loop-i-preserved c =
     let a = c.args in
     let i = c.loop-i in
