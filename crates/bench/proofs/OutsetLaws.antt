@@ -10,7 +10,6 @@ use Rattle.signer.specs.Log.{entry_at}
 use Rattle.signer.specs.Signer.{fresh_signer}
 use Rattle.signer.specs.declared.signer.Signer.{Signer}
 use Rattle.signer.proofs.SignerLaws.{fresh-last, fresh-entry, fresh-wellformed}
-
 use Rattle.delivery.specs.Limits.{Limits}
 use Rattle.delivery.specs.Sets.{in_set}
 use Rattle.delivery.specs.Delivered.{heard}

@@ -51,6 +51,10 @@ module _ (limit : ℕ) (s : Signer) (i : ℕ) where
   unfolding grants
   grants-above h l = grind (arith, nat_tests)
 
+  -- and nothing stands under it
+  pub granted-new : WellFormed limit s → grants limit s i ≡ true → entry_at s.log i ≡ 0
+  granted-new w g = grind (arith, w.capped i (entry_at s.log i - 1), grants-only)
+
 module _ (limit : ℕ) (s : Signer) (i v : ℕ) where
   -- the answer says whether the request was granted, whatever the value
   pub sign-answer : (sign limit s i v).signed ≡ grants limit s i
@@ -71,10 +75,6 @@ module _ (limit : ℕ) (s : Signer) (i v : ℕ) where
       → entry_at (sign limit s i v).signer.log j ≡ (if j == i then entry_of v else entry_at s.log j)
   unfolding sign grants is_within entry_at with_entry
   granted-entry w g j = let size = w.whole.whole in grind (arith, nat_tests, nth-set-same, nth-set-other)
-
-  -- and nothing stood there
-  pub granted-new : WellFormed limit s → grants limit s i ≡ true → entry_at s.log i ≡ 0
-  granted-new w g = grind (arith, w.capped i (entry_at s.log i - 1), grants-only limit s i)
 
   -- and a signer stays well-formed
   pub sign-wellformed : WellFormed limit s → WellFormed limit (sign limit s i v).signer
