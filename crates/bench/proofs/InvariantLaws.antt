@@ -27,13 +27,13 @@ use Rattle.vote.proofs.LifeLaws.{Grounded, called-turn, called-due, called-groun
 use Rattle.vote.proofs.CallLaws.{New, turn-says}
 use Rattle.bench.specs.Events.{delivering, turning}
 use Rattle.bench.specs.Benches.{is_sound, holds, holders, board_at, signer_at, heard_by}
-use Rattle.bench.specs.Story.{hearing, hearing_said, believing}
+use Rattle.bench.specs.Story.{hearing, hearing_said}
 use Rattle.bench.specs.Effects.{effect_of}
 use Rattle.bench.specs.Setups.{Setup}
 use Rattle.bench.specs.declared.bench.Bench.{Bench}
 use Rattle.bench.specs.declared.event.Event.{Event}
 use Rattle.bench.proofs.ViewLaws.{View, view, setup_of, put, put-cases}
-use Rattle.bench.proofs.ReplayLaws.{Sane, replay, replay-sane}
+use Rattle.bench.proofs.ReplayLaws.{Sane, replay, believing-heard, replay-sane}
 use Rattle.bench.proofs.SpreadLaws.{Spread, delivery-spreads, signing-spreads}
 use Rattle.bench.proofs.FitLaws.{Ground, is-there, Fit}
 use Rattle.bench.proofs.AcceptedLaws.{Accepted}
@@ -69,16 +69,18 @@ module _ {L : Limits} {c : Bench} (g : Ground L (setup_of c)) (f : Fit L (setup_
   unheard q k s i = let z = fun_ext (λ (j : ℕ). q j s i) in rw z (f.spread k s i)
 
   quiet : (e.kind ≡ turning → ⊥) → (e.kind ≡ delivering → ⊥) → Spread L c.sound c'.owed (heard_by L c')
-  unfolding put believing
+  unfolding put
   quiet n m =
+      let h = believing-heard L S (view L c) e in
       subst⁻¹
       (λ (o : Owed). Spread L c.sound o (heard_by L c'))
       (owed-kept L c e n m)
       (unheard (λ k s i. heard-then k s i ∙ grind (arith, nat_tests)))
 
   hears : e.kind ≡ delivering → Spread L c.sound c'.owed (heard_by L c')
-  unfolding put believing hearing
+  unfolding put hearing
   hears m =
+      let h = believing-heard L S (view L c) e in
       subst⁻¹
       (λ (o : Owed). Spread L c.sound o (heard_by L c'))
       (owed-delivering L c e m)
@@ -95,7 +97,7 @@ module _ {L : Limits} {c : Bench} (g : Ground L (setup_of c)) (f : Fit L (setup_
       f.spread)
 
   turns : e.kind ≡ turning → Spread L c.sound c'.owed (heard_by L c')
-  unfolding put believing hearing hearing_said owed_saying
+  unfolding put hearing hearing_said owed_saying
   turns m =
       subst⁻¹
       (λ (o : Owed). Spread L c.sound o (heard_by L c'))
@@ -105,6 +107,7 @@ module _ {L : Limits} {c : Bench} (g : Ground L (setup_of c)) (f : Fit L (setup_
       heard-said : (k s i : ℕ) → heard_by L c' k s i
           ≡ (if k == e.a then hearing_said (heard_by L c k) (turn L c.n e.a b).signed s i else heard_by L c k s i)
       heard-said k s i =
+          let h = believing-heard L S (view L c) e in
           let z = heard-then k s i in
           let y = turn-says L c.n e.a b (acc.voting m) in
           grind (arith, nat_tests)

@@ -50,6 +50,14 @@ module _ (L : Limits) (S : Setup) (V : View) (e : Event) where
         signed = signed_then;
       }
 
+  -- what that board has heard then
+  pub believing-heard : (believing L S.n e.a t e).heard
+      ≡ (if e.kind == turning then hearing_said t.heard (saying L S.n e.a t)
+      else if e.kind == delivering then hearing t.heard e.b e.id e.value
+      else t.heard)
+  unfolding believing
+  believing-heard = grind (arith, nat_tests)
+
   -- what an accepted event is, as far as a view shows it
   pub record Lawful : Type 0 where
     pub is-sound : (e.kind ≡ signing → ⊥) → Sound L S e.a
@@ -88,8 +96,8 @@ module _ {L : Limits} {S : Setup} {V : View} {e : Event} (w : Lawful L S V e) (f
 
   pub replay-delivers : (k s i v : ℕ) → ((V'.stands k).heard s i ≡ entry_of v)
       ↔ (((V.stands k).heard s i ≡ entry_of v) ⊎ DeliversNow L S V.stands e k s i v)
-  unfolding put believing hearing hearing_said
-  replay-delivers k s i v = (grind (arith, nat_tests), grind (arith, nat_tests))
+  unfolding put hearing hearing_said
+  replay-delivers k s i v = let h = believing-heard L S V e in (grind (arith, nat_tests), grind (arith, nat_tests))
 
   pub replay-decides : (k r v : ℕ) → (Sound L S k × (V'.status k ≡ Decided (decision_of r v)))
       ↔ ((Sound L S k × (V.status k ≡ Decided (decision_of r v))) ⊎ DecidesNow L S V.stands e k r v)
@@ -102,5 +110,7 @@ module _ {L : Limits} {S : Setup} {V : View} {e : Event} (w : Lawful L S V e) (f
       (grind (arith, nat_tests), grind (arith, nat_tests))
 
   pub replay-sane : Sane L S V'
-  unfolding put believing signed_then hearing hearing_said
-  replay-sane = record { part = λ k s i. grind (arith, nat_tests); own = λ k i t. grind (arith, nat_tests) }
+  unfolding put signed_then hearing hearing_said
+  replay-sane =
+      let h = believing-heard L S V e in
+      record { part = λ k s i. grind (arith, nat_tests); own = λ k i t. grind (arith, nat_tests) }

@@ -50,7 +50,11 @@ back_tested ms bs =
 module _ (n : ℕ) (ms : List ℕ) (f : Marked n ms) (bs : List ℕ) where
   bus-full : bus_due limits (n ∷ ms ++ bs) ≡ got ms bs
   unfolding bus_due byte_due next
-  bus-full = rw (within_in limits.boards n f.front.one f.front.seven, ← f.full, marks-full ms bs f.front.marks)
+  bus-full =
+      let some = within_in limits.boards n f.front.one f.front.seven in
+      let size = f.full in
+      let marks = marks-full ms bs f.front.marks in
+      grind (arith, nat_tests, length-append)
 
   file-due : file_due limits (n ∷ ms ++ bs) ≡ back_tested ms bs
   unfolding file_due next
@@ -106,11 +110,17 @@ pub answered : (bs : List ℕ) (m : ℕ) → Answered bs m → ReadAs bs m
 unfolding fault_number file_due bus_due byte_due next
 answered bs m (taken n h l ms cs f t g) = (file ms (events_in (high_first h l) cs), file-taken n h l ms cs f t g)
 answered bs m ends-at-once = (EndsEarly, (refl, refl))
-answered bs m (ends-in-marks n ms f h) = (EndsEarly, (rw (within_in limits.boards n f.one f.seven, marks-cut n ms f.marks h), refl))
+answered bs m (ends-in-marks n ms f h) =
+    let some = within_in limits.boards n f.one f.seven in
+    let cut = marks-cut n ms f.marks h in
+    (EndsEarly, (grind (arith, nat_tests, some, cut), refl))
 answered bs m (ends-in-count n ms cs f h) = (EndsEarly, (let d = file-due n ms f cs in grind (arith, nat_tests), refl))
 answered bs m (ends-in-events n h l ms cs f t g) = (EndsEarly, (let d = file-due n ms f (h ∷ l ∷ cs) in grind (arith, nat_tests), refl))
 answered bs m (no-bus n cs o) = (NoBus, (rw (⊎_elim (within-zero limits.boards n) (within-above limits.boards n) o), no_bus-is))
-answered bs m (no-mark n k ms cs f h w) = (NoMark, (rw (within_in limits.boards n f.one f.seven, marks-wrong n k ms cs f.marks h w), no_mark-is))
+answered bs m (no-mark n k ms cs f h w) =
+    let some = within_in limits.boards n f.one f.seven in
+    let wrong = marks-wrong n k ms cs f.marks h w in
+    (NoMark, (grind (arith, nat_tests, some, wrong), no_mark-is))
 answered bs m (too-many n h l ms cs f t) = (TooMany, (let d = file-due n ms f (h ∷ l ∷ cs) in grind (arith, nat_tests), refl))
 answered bs m (left-over n h l ms cs f t g) = (LeftOver, (let d = file-due n ms f (h ∷ l ∷ cs) in grind (arith, nat_tests), refl))
 
