@@ -241,7 +241,9 @@ sure-agrees L n marks g H c y =
     record {
       agreement =
           λ j k r r' v w p q.
-          won-one L (setup L n marks).n (signed_by L c) g.some-board r v r' w (signed-won g y j r v p) (signed-won g y k r' w q);
+          let a = signed-won g y j r v p in
+          let b = signed-won g y k r' w q in
+          won-one L (setup L n marks).n (signed_by L c) g.some-board r v r' w a b;
       one_round =
           λ k r r' v w p q.
           let d = ((y.tells.decided k r v).0 p).1 in
@@ -252,7 +254,8 @@ sure-agrees L n marks g H c y =
           let o = won-opened L (setup L n marks).n (heard_by L c k) g.some-board r v (heard-won g y k r v d) in
           opened-origin g y.fit y.tells y.rooted k r v o.said;
       one_value = λ k i v w p q. entry-one v w (sym ((y.tells.signed k i v).0 p) ∙ (y.tells.signed k i w).0 q);
-      integrity = λ k s i v d. (y.tells.signed s i v).1 (was-signed y.fit.sane k s i v ((y.tells.delivered k s i v).0 d));
+      integrity =
+          λ k s i v d. (y.tells.signed s i v).1 (was-signed y.fit.sane k s i v ((y.tells.delivered k s i v).0 d));
       owed = (all_alike g y, nothing-owed);
       shows =
           record {

@@ -68,8 +68,8 @@ rooted-refused L S H V x o =
     }
 
 -- an opening that a board has heard from the round's coordinator has an origin
-module _ {L : Limits} {S : Setup} {H : History} {c : Bench} (g : Ground L S) (f : Fit L S c) (y : Tells L S H (view L c))
-    (o : Rooted L S H (view L c)) where
+module _ {L : Limits} {S : Setup} {H : History} {c : Bench} (g : Ground L S) (f : Fit L S c)
+    (y : Tells L S H (view L c)) (o : Rooted L S H (view L c)) where
   pub opened-origin : (k r v : ℕ) → heard_by L c k (coordinator S.n r) (identifier_of L Opening r) ≡ entry_of v
       → Origin L S H v
   opened-origin k r v e = go (decided (is_round L r)) (decided (in_set S.sound p))
@@ -95,7 +95,8 @@ module _ {L : Limits} {S : Setup} {H : History} {c : Bench} (g : Ground L S) (f 
           ∙ heard-outside L (board_at L c k).delivered p 0 (within-zero L.identifiers 0 refl)))
 
 module _ {L : Limits} {H : History} {c : Bench} (g : Ground L (setup_of c)) (f : Fit L (setup_of c) c)
-    (y : Tells L (setup_of c) H (view L c)) (o : Rooted L (setup_of c) H (view L c)) {e : Event} (acc : Accepted L c e) where
+    (y : Tells L (setup_of c) H (view L c)) (o : Rooted L (setup_of c) H (view L c)) {e : Event}
+    (acc : Accepted L c e) where
   abbrev S : Setup
   S = setup_of c
 

@@ -78,11 +78,13 @@ module _ {L : Limits} {S : Setup} {H : History} {k s i v : ℕ} where
       arrived : Sound L S k → (r : Reached L S H k s i v)
           → Order at.before r.moment.before (accepted at.event) (accepted r.moment.event) at.later r.moment.later → ⊥
       arrived t r (inl p) =
-          let m : Moment at.before = record { before = r.moment.before; event = r.moment.event; later = p.0; whole = p.1 } in
+          let m : Moment at.before =
+          record { before = r.moment.before; event = r.moment.event; later = p.0; whole = p.1 } in
           o.not-before (t, inr (record { moment = m; so = r.so }))
       arrived t r (inr (inl p)) = spreads-not o.spreads (subst (λ (x : Entry). Delivers x.event k s i v) (sym p.0) r.so)
       arrived t r (inr (inr p)) =
-          let m : Moment at.later = record { before = p.0; event = r.moment.event; later = r.moment.later; whole = p.1 } in
+          let m : Moment at.later =
+          record { before = p.0; event = r.moment.event; later = r.moment.later; whole = p.1 } in
           o.not-since (record { moment = m; so = r.so })
 
   -- and who lacks a statement is owed a copy, as of any moment when it spread

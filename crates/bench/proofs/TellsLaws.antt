@@ -36,7 +36,7 @@ same : {A A' B C R : Type 0} → A' ↔ (A ⊎ (R × B)) → (R → ⊥) → A �
 same m n z = (λ p. ⊎_elim z.0 (λ b. absurd (n b.0)) (m.0 p), λ c. m.1 (inl (z.1 c)))
 
 module _ {L : Limits} {S : Setup} {H : History} {V : View} (y : Tells L S H V) where
-  -- so it does with a refused event more, on the same view, and with an accepted one, on the view where that is replayed
+  -- so it does with a refused event more, on the same view, and with an accepted one, on the view where it is replayed
   pub tells-refused : (x : Entry) → (x.answer ≡ 0 → ⊥) → Tells L S (H then x) V
   unfolding after_entry
   tells-refused x n =
