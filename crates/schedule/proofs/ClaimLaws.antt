@@ -4,7 +4,8 @@ use native.Mathlib.Omega.{arith}
 use mathlib.Core.Path.{◌≡◌, refl, sym, ap, subst⁻¹, ◌∙◌}
 use mathlib.Core.List.{List, [], ◌∷◌, ◌++◌, append_assoc}
 use lib.ListN.{length, get_or}
-use Rattle.std.specs.Prelude.{codes}
+use Rattle.std.specs.Prelude.{codes, decimal}
+use Rattle.std.proofs.lemmas.Fmt.{decimal_digit}
 use Rattle.signer.specs.FromOne.{nth}
 use Rattle.signer.proofs.FromOneLaws.{within_low, nth-index}
 use Rattle.delivery.specs.Limits.{limits}
@@ -15,13 +16,12 @@ use Rattle.bench.proofs.SetupLaws.{board-made}
 use Rattle.bench.proofs.Demands.{agreed}
 use Rattle.schedule.specs.Files.{got, fault_number, Contents, first_bench, file_due}
 use Rattle.schedule.specs.Layouts.{All, none, more}
-use Rattle.schedule.specs.Prints.{decimal, line, space, parts_to, event_lines, board_line, board_lines, refused_line, printed_from, printed}
+use Rattle.schedule.specs.Prints.{line, space, parts_to, event_lines, board_line, board_lines, refused_line, printed_from, printed}
 use Rattle.schedule.specs.Stops.{Answered}
 use Rattle.schedule.specs.Claims.{Plays, Reporting}
 use Rattle.schedule.specs.declared.fault.Fault.{Fault}
 use Rattle.schedule.proofs.FaultLaws.{fault-row}
 use Rattle.schedule.proofs.FileLaws.{ReadAs, answered, known, file-got}
-use Rattle.schedule.proofs.PrintLaws.{decimal-one}
 
 -- a text ends with a line end
 abbrev Ended : List ℕ → Type 0
@@ -48,7 +48,7 @@ board-ended k s = line-ended (decimal k ∷ (letter_byte s.letter ∷ []) ∷ de
 -- the line of a refused file
 refused-words : (w : Fault) → refused_line w ≡ codes "refused " ++ (48 + fault_number w) ∷ codes "\n"
 unfolding refused_line
-refused-words w = ap (λ (ds : List ℕ). codes "refused " ++ ds ++ codes "\n") (decimal-one (fault_number w) (omega (arith, fault-row w)))
+refused-words w = ap (λ (ds : List ℕ). codes "refused " ++ ds ++ codes "\n") (decimal_digit (fault_number w) (omega (arith, fault-row w)))
 
 -- what holds of all of a list holds of its k-th
 all-at : {A : Type 0} (P : A → Type 0) (xs : List A) (i : ℕ) (d : A) → All P xs → i < length xs → P (get_or xs i d)
