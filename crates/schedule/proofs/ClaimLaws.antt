@@ -1,11 +1,11 @@
 -- What is claimed of every file (specs/Claims). Nothing is assumed: it holds of every list of bytes, of any length.
 use Prim.Native.Nat.{ℕ, zero, suc, ◌+◌, ◌-◌, ◌≤◌, ◌<◌}
 use native.Mathlib.Omega.{arith}
-use mathlib.Core.Path.{◌≡◌, refl, sym, ap, subst⁻¹, ◌∙◌}
+use mathlib.Core.Path.{◌≡◌, refl, sym, ap, ◌∙◌}
 use mathlib.Core.List.{List, [], ◌∷◌, ◌++◌, append_assoc}
-use lib.ListN.{length, get_or}
-use Rattle.std.specs.Prelude.{codes}
-use Rattle.signer.specs.FromOne.{nth}
+use lib.ListN.{length}
+use Rattle.std.specs.Prelude.{codes, decimal}
+use Rattle.std.proofs.lemmas.Fmt.{decimal_digit}
 use Rattle.signer.proofs.FromOneLaws.{within_low, nth-index}
 use Rattle.delivery.specs.Limits.{limits}
 use Rattle.bench.specs.Runs.{after, answers_to}
@@ -14,14 +14,12 @@ use Rattle.bench.specs.declared.show.Shown.{Shown}
 use Rattle.bench.proofs.SetupLaws.{board-made}
 use Rattle.bench.proofs.Demands.{agreed}
 use Rattle.schedule.specs.Files.{got, fault_number, Contents, first_bench, file_due}
-use Rattle.schedule.specs.Layouts.{All, none, more}
-use Rattle.schedule.specs.Prints.{decimal, line, space, parts_to, event_lines, board_line, board_lines, refused_line, printed_from, printed}
+use Rattle.schedule.specs.Prints.{line, space, parts_to, event_lines, board_line, board_lines, refused_line, printed_from, printed}
 use Rattle.schedule.specs.Stops.{Answered}
 use Rattle.schedule.specs.Claims.{Plays, Reporting}
 use Rattle.schedule.specs.declared.fault.Fault.{Fault}
 use Rattle.schedule.proofs.FaultLaws.{fault-row}
 use Rattle.schedule.proofs.FileLaws.{ReadAs, answered, known, file-got}
-use Rattle.schedule.proofs.PrintLaws.{decimal-one}
 
 -- a text ends with a line end
 abbrev Ended : List ℕ → Type 0
@@ -48,16 +46,7 @@ board-ended k s = line-ended (decimal k ∷ (letter_byte s.letter ∷ []) ∷ de
 -- the line of a refused file
 refused-words : (w : Fault) → refused_line w ≡ codes "refused " ++ (48 + fault_number w) ∷ codes "\n"
 unfolding refused_line
-refused-words w = ap (λ (ds : List ℕ). codes "refused " ++ ds ++ codes "\n") (decimal-one (fault_number w) (omega (arith, fault-row w)))
-
--- what holds of all of a list holds of its k-th
-all-at : {A : Type 0} (P : A → Type 0) (xs : List A) (i : ℕ) (d : A) → All P xs → i < length xs → P (get_or xs i d)
-all-at P [] i d none h = absurd (omega arith)
-all-at P (x ∷ xs) zero d (more p a) h = p
-all-at P (x ∷ xs) (suc i) d (more p a) h = all-at P xs i d a (omega arith)
-
-all-nth : {A : Type 0} (P : A → Type 0) (xs : List A) (k : ℕ) (d : A) → All P xs → 1 ≤ k → k ≤ length xs → P (nth xs k d)
-all-nth P xs k d a l h = subst⁻¹ P (nth-index xs k d l) (all-at P xs (k - 1) d a (omega arith))
+refused-words w = ap (λ (ds : List ℕ). codes "refused " ++ ds ++ codes "\n") (decimal_digit (fault_number w) (omega (arith, fault-row w)))
 
 module _ (bs : List ℕ) where
   -- one that is taken gets its bench and plays as every list does
@@ -66,7 +55,8 @@ module _ (bs : List ℕ) where
   plays f rest e =
       let h = (file-got bs f rest e).holds in
       record {
-        made = board-made limits (length f.marks) f.marks h.boards (λ k. all-nth _ f.marks k 0 h.marks);
+        made = board-made limits (length f.marks) f.marks h.boards
+            (λ k l u. rw (nth-index f.marks k 0 l) (h.marks (k - 1) 0 (omega arith)));
         report = ap (printed_from limits) e;
         agreement = agreed (length f.marks) f.marks f.events;
       }

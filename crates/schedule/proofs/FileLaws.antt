@@ -10,18 +10,18 @@ use lib.ListN.{length, drop, length-drop, length-append}
 use lib.Seq.{drop-append_seam}
 use Rattle.std.specs.Prelude.{if◌then◌else◌, Ok, Err, nat_le}
 use Rattle.std.proofs.lemmas.Bool.Decides.{nat_tests}
+use Rattle.std.proofs.lemmas.List.Elements.{All-weaker}
 use Rattle.signer.proofs.FromOneLaws.{within_in, within-zero, within-above, within_low, within-high}
 use Rattle.delivery.specs.Limits.{limits}
 use Rattle.delivery.specs.Bus.{is_board}
 use Rattle.delivery.proofs.TestLaws.{decided}
 use Rattle.bench.specs.Events.{high_first, event_bytes}
-use Rattle.bench.specs.Setups.{is_mark}
 use Rattle.bench.specs.Runs.{events_in}
 use Rattle.bench.specs.declared.event.Event.{Event}
 use Rattle.bench.proofs.AnswerLaws.{no_bus-is, no_mark-is}
 use Rattle.bench.proofs.RunLaws.{length-events}
 use Rattle.schedule.specs.Files.{Reading, got, fault, next, byte_due, bus_due, count_bytes, nothing_left, Contents, file_due, fault_number}
-use Rattle.schedule.specs.Layouts.{All, none, more, Holdable}
+use Rattle.schedule.specs.Layouts.{Holdable}
 use Rattle.schedule.specs.Readings.{bus_in, bus_from, bus_of, section_of, schedule_in, schedule_from, schedule_of}
 use Rattle.schedule.specs.Stops.{Mark, Marked, Answered, counted, taken, ends-at-once, ends-in-marks, ends-in-count, ends-in-events, no-bus, no-mark, too-many, left-over}
 use Rattle.schedule.specs.declared.bus.Bus.{Bus}
@@ -65,11 +65,6 @@ module _ (n : ℕ) (ms : List ℕ) (f : Marked n ms) (bs : List ℕ) where
       let l = left-due (file ms (events_in (count_at bs) events)) (drop (event_bytes * count_at bs) events) in
       grind (arith, nat_tests, length-drop)
 
--- all marks are marks
-pub marks-are : (ms : List ℕ) → All Mark ms → All (λ m. is_mark m ≡ true) ms
-marks-are [] none = none
-marks-are (m ∷ ms) (more a all) = more (mark-is m a) (marks-are ms all)
-
 -- A file that is taken: it is read as f, which it can hold, and ends with the bytes of f's events.
 pub record FileRead (bs : List ℕ) (f : Contents) : Type 0 where
   pub high : ℕ
@@ -92,7 +87,7 @@ module _ (n h l : ℕ) (ms bs : List ℕ) (f : Marked n ms) (few : counted h l �
         due = let d = file-due n ms f (h ∷ l ∷ bs) in grind (arith, nat_tests);
         holds = record {
           boards = within_in limits.boards (length ms) (omega (arith, f)) (omega (arith, f));
-          marks = marks-are ms f.front.marks;
+          marks = All-weaker Mark _ mark-is ms f.front.marks;
           few = omega (arith, length-events (high_first h l) bs);
         };
         whole = ap (λ (k : ℕ). k ∷ ms ++ h ∷ l ∷ bs) (sym f.full);

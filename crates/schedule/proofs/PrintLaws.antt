@@ -1,30 +1,26 @@
 -- Laws of what is printed: texts put one after another, the digits of a number, and how long the lines are. Assumes nothing.
-use Prim.Native.Nat.{ℕ, zero, suc, ◌+◌, ◌*◌, ◌^◌, ◌≤◌, ◌<◌}
+use Prim.Native.Nat.{ℕ, zero, suc, ◌+◌, ◌*◌, ◌≤◌, ◌<◌}
 use native.Mathlib.Nat.{zero-add, add-zero}
 use native.Mathlib.Numerals.{add-one}
 use native.Mathlib.Omega.{arith}
 use mir.Syntax.{w8, w16}
 use mir.Val.{Fits}
 use denote.Ref.{MutBor}
-use borrow.Author.Tests.{lt-ltb, le-ltb, le-leb}
+use borrow.Author.Tests.{le-leb}
 use mathlib.Core.Path.{◌≡◌, refl, sym, ◌∙◌}
 use mathlib.Core.List.{List, [], ◌∷◌, ◌++◌, append_assoc}
 use lib.ListN.{length, take, drop, get_or, set, length-append}
 use Rattle.std.proofs.lemmas.Bool.Decides.{nat_tests}
-use Rattle.std.proofs.lemmas.Fmt.{AppendsLastDigit, decimal_digit, decimal_from_appends, length-decimal-le, length-decimal-le_succ}
+use Rattle.std.proofs.lemmas.Fmt.{length-decimal-le}
 use Rattle.std.proofs.lemmas.List.{take_more}
-use Rattle.std.specs.Fmt as fmt
 use lib.Seq.{sets, length-sets, sets-eq, take-append_seam}
 use Rattle.std.specs.Prelude.{Ok, Err}
-use Rattle.signer.proofs.ConditionalLaws.{if-true, if-false}
+use Rattle.signer.proofs.ConditionalLaws.{if-true}
 use Rattle.delivery.specs.Limits.{limits}
 use Rattle.bench.specs.declared.show.Shown.{Shown}
 use Rattle.bench.proofs.RunLaws.{sets-written}
 use Rattle.schedule.specs.Files.{most_events, fault_number}
 use Rattle.schedule.specs.Prints.{
-  digit,
-  decimal_in,
-  decimal,
   parts_to,
   event_line,
   board_line,
@@ -81,36 +77,21 @@ puts_more text k there p q = rw (take_more text k 0 there) (p then q)
 pub put_size : {xs buf buf' : List ℕ} {at r : ℕ} → PutAt xs buf at buf' r → (r ≡ at + length xs) × (length buf' ≡ length buf)
 put_size {xs} {buf} {at = at} p = (p.place, rw p.bytes (length-sets buf at xs))
 
--- a decimal is what std has for a number, as far as numbers are printed here
-pub decimal-std : (m : ℕ) → m < 10 ^ 5 → fmt.decimal m ≡ decimal m
-unfolding decimal decimal_in
-decimal-std m h =
-    let steps : AppendsLastDigit decimal_in = record { one = λ k n l. if-true _ _ _ (lt-ltb n 10 l); more = λ k n l. if-false _ _ _ (le-ltb n 10 l) } in
-    sym (decimal_from_appends decimal_in steps (suc m) m (omega (arith, h)) (omega (arith, length-decimal-le_succ m (omega (arith, h)))))
-
-pub ruleset std_decimal = (decimal-std)
-
--- below ten it is one digit
-pub decimal-one : (m : ℕ) → m < 10 → decimal m ≡ digit m ∷ []
-decimal-one m h = sym (decimal-std m (omega arith)) ∙ decimal_digit m h
-
--- a number below a power of ten has at most as many digits as the power has zeros
-digits-within : (d m : ℕ) → m < 10 ^ suc d → m < 10 ^ 5 → length (decimal m) ≤ suc d
-digits-within d m h f = rw (← decimal-std m f) (length-decimal-le (suc d) m (omega arith) h (omega (arith, f)))
-
--- so a line is within its most bytes
+-- a line is within its most bytes, since a number below a power of ten has at most as many digits as the power has zeros
 pub event-within : (k a : ℕ) → k ≤ most_events → Fits w8 a → length (event_line k a) ≤ event_line_bytes
 unfolding event_line
 event-within k a h f =
-    simp length-append (omega (arith, digits-within 3 k (omega arith) (omega arith), digits-within 2 a (omega arith) (omega arith)))
+    let number = length-decimal-le 4 k (omega arith) (omega arith) (omega arith) in
+    let answer = length-decimal-le 3 a (omega arith) (omega arith) (omega arith) in
+    simp length-append (omega (arith, number, answer))
 
 pub board-within : (k : ℕ) (s : Shown) → k ≤ limits.boards → Fits w8 s.round.0 → Fits w16 s.value
     → length (board_line k s) ≤ board_line_bytes
 unfolding board_line
 board-within k s h f g =
-    let number = digits-within 0 k (omega arith) (omega arith) in
-    let round = digits-within 2 s.round.0 (omega arith) (omega arith) in
-    let value = digits-within 4 s.value (omega arith) (omega arith) in
+    let number = length-decimal-le 1 k (omega arith) (omega arith) (omega arith) in
+    let round = length-decimal-le 3 s.round.0 (omega arith) (omega arith) (omega arith) in
+    let value = length-decimal-le 5 s.value (omega arith) (omega arith) (omega arith) in
     simp length-append (omega (arith, number, round, value))
 
 -- a refused file's line is within the longest report
@@ -118,7 +99,8 @@ pub refused-within : (f : Fault) → length (refused_line f) ≤ longest_print l
 unfolding refused_line
 refused-within f =
     let row = (fault-row f).1 in
-    simp length-append (omega (arith, digits-within 0 (fault_number f) (omega (arith, row)) (omega (arith, row))))
+    let number = length-decimal-le 1 (fault_number f) (omega arith) (omega (arith, row)) (omega (arith, row)) in
+    simp length-append (omega (arith, number))
 
 pub ruleset line_bounds = (event-within, board-within, refused-within)
 

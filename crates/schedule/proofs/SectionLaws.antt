@@ -10,9 +10,10 @@ use mathlib.Core.Bool.{true, false}
 use mathlib.Core.List.{List, [], ◌∷◌, ◌++◌, append_assoc}
 use lib.ListN.{length, take, drop, get_or, set, replicate, length-drop, take-append-drop}
 use lib.Seq.{drop-drop}
-use Rattle.std.specs.Prelude.{if◌then◌else◌, Ok, Err, nat_le}
+use Rattle.std.specs.Prelude.{if◌then◌else◌, Ok, Err, nat_le, All}
 use Rattle.std.proofs.lemmas.Bool.Decides.{nat_tests}
 use Rattle.std.proofs.lemmas.List.{length-take-le, take_more, drop_more, take_all, set_at}
+use Rattle.std.proofs.lemmas.List.Elements.{All-nil, All-cons, All-head, All-tail, All-more}
 use Rattle.signer.proofs.FromOneLaws.{within-high}
 use Rattle.delivery.specs.Limits.{limits}
 use Rattle.delivery.specs.Bus.{is_board}
@@ -38,7 +39,6 @@ use Rattle.schedule.specs.Files.{
   events_due,
   section_due,
 }
-use Rattle.schedule.specs.Layouts.{All, none, more}
 use Rattle.schedule.specs.Readings.{padded, bus_from, bus_of, section_from, section_of}
 use Rattle.schedule.specs.Stops.{Mark, sound, faulty}
 use Rattle.schedule.specs.declared.fault.Fault.{Fault}
@@ -58,20 +58,22 @@ mark-of (suc (suc m)) h = absurd (omega arith)
 pub marks-cut : (n : ℕ) (ms : List ℕ) → All Mark ms → length ms < n → many_due mark_due n ms ≡ fault EndsEarly
 unfolding many_due mark_due byte_due next
 marks-cut zero ms a h = absurd (omega arith)
-marks-cut (suc n) [] none h = refl
-marks-cut (suc n) (m ∷ ms) (more a all) h = rw (mark-is m a, marks-cut n ms all (omega arith))
+marks-cut (suc n) [] a h = refl
+marks-cut (suc n) (m ∷ ms) a h =
+    rw (mark-is m (All-head Mark m ms a), marks-cut n ms (All-tail Mark m ms a) (omega arith))
 
 pub marks-wrong : (n m : ℕ) (ms bs : List ℕ) → All Mark ms → length ms < n → 1 < m
     → many_due mark_due n (ms ++ m ∷ bs) ≡ fault NoMark
 unfolding many_due mark_due byte_due next
 marks-wrong zero m ms bs a h w = absurd (omega arith)
-marks-wrong (suc n) m [] bs none h w = rw (lt-leb m 1 w)
-marks-wrong (suc n) m (k ∷ ms) bs (more a all) h w = rw (mark-is k a, marks-wrong n m ms bs all (omega arith) w)
+marks-wrong (suc n) m [] bs a h w = rw (lt-leb m 1 w)
+marks-wrong (suc n) m (k ∷ ms) bs a h w =
+    rw (mark-is k (All-head Mark k ms a), marks-wrong n m ms bs (All-tail Mark k ms a) (omega arith) w)
 
 pub marks-full : (ms bs : List ℕ) → All Mark ms → many_due mark_due (length ms) (ms ++ bs) ≡ got ms bs
 unfolding many_due mark_due byte_due next
-marks-full [] bs none = refl
-marks-full (m ∷ ms) bs (more a all) = rw (mark-is m a, marks-full ms bs all)
+marks-full [] bs a = refl
+marks-full (m ∷ ms) bs a = rw (mark-is m (All-head Mark m ms a), marks-full ms bs (All-tail Mark m ms a))
 
 pub data Split (n : ℕ) : List ℕ → Type 0 where
   cut : (ms : List ℕ) → All Mark ms → length ms < n → Split n ms
@@ -79,21 +81,17 @@ pub data Split (n : ℕ) : List ℕ → Type 0 where
   full : (ms bs : List ℕ) → All Mark ms → length ms ≡ n → Split n (ms ++ bs)
 
 pub split : (n : ℕ) (bs : List ℕ) → Split n bs
-split zero bs = full [] bs none refl
-split (suc n) [] = cut [] none (omega arith)
+split zero bs = full [] bs (All-nil Mark) refl
+split (suc n) [] = cut [] (All-nil Mark) (omega arith)
 split (suc n) (m ∷ bs) = go (dec_le m 1) (split n bs)
   where
     go : {cs : List ℕ} → Dec (m ≤ 1) → Split n cs → Split (suc n) (m ∷ cs)
-    go {cs} (no h) s = wrong m [] cs none (omega arith) (omega arith)
-    go (yes h) (cut ms a l) = cut (m ∷ ms) (more (mark-of m h) a) (omega arith)
-    go (yes h) (wrong k ms bs a l w) = wrong k (m ∷ ms) bs (more (mark-of m h) a) (omega arith) w
-    go (yes h) (full ms bs a l) = full (m ∷ ms) bs (more (mark-of m h) a) (omega arith)
+    go {cs} (no h) s = wrong m [] cs (All-nil Mark) (omega arith) (omega arith)
+    go (yes h) (cut ms a l) = cut (m ∷ ms) (All-cons Mark m ms (mark-of m h) a) (omega arith)
+    go (yes h) (wrong k ms bs a l w) = wrong k (m ∷ ms) bs (All-cons Mark m ms (mark-of m h) a) (omega arith) w
+    go (yes h) (full ms bs a l) = full (m ∷ ms) bs (All-cons Mark m ms (mark-of m h) a) (omega arith)
 
 -- the same as the call that reads the marks has looked at the first k
-all-after : (ms : List ℕ) (m : ℕ) → All Mark ms → Mark m → All Mark (ms ++ m ∷ [])
-all-after [] m none a = more a none
-all-after (x ∷ ms) m (more b all) a = more b (all-after ms m all a)
-
 module _ (n k : ℕ) (bs : List ℕ) (a : All Mark (take k bs)) where
   pub marks-short : length bs ≤ k → k < n → marks_due n bs ≡ fault EndsEarly
   marks-short l h = marks-cut n bs (rw (take_all k bs l) at a) (omega arith)
@@ -111,7 +109,7 @@ module _ (n k : ℕ) (bs : List ℕ) (a : All Mark (take k bs)) where
         ∙ marks-wrong n (get_or bs k 0) (take k bs) (drop (k + 1) bs) a (omega (arith, length-take-le k bs)) (leb-false _ _ t)
 
     pub marks-next : is_mark (get_or bs k 0) ≡ true → All Mark (take (k + 1) bs)
-    marks-next t = rw (take_more bs k 0 l) (all-after (take k bs) (get_or bs k 0) a (mark-of (get_or bs k 0) (leb-true _ _ t)))
+    marks-next t = All-more Mark bs k 0 l a (mark-of (get_or bs k 0) (leb-true _ _ t))
 
     pub padded-next : k < limits.boards → set (padded limits (take k bs)) k (get_or bs k 0) ≡ padded limits (take (k + 1) bs)
     padded-next f =
@@ -119,7 +117,7 @@ module _ (n k : ℕ) (bs : List ℕ) (a : All Mark (take k bs)) where
         let right : limits.boards - length (take (k + 1) bs) ≡ limits.boards - (k + 1) = omega (arith, length-take-le (k + 1) bs) in
         rw (left, right, take_more bs k 0 l, append_assoc) (set_at (take k bs) 0 (replicate (limits.boards - (k + 1)) 0) (get_or bs k 0) k (length-take-le k bs (omega arith)))
 
-pub ruleset marks_told = (none, marks-short, marks-none, marks-there, length-take-le)
+pub ruleset marks_told = (marks-short, marks-none, marks-there, length-take-le)
 
 -- the first section by the tests of the call that reads it
 pub bus-read : (bs : List ℕ) → bus_of limits bs

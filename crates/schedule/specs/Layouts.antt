@@ -1,5 +1,5 @@
 -- The other way round: the bytes of a schedule.
-use Rattle.std.specs.Prelude.{ℕ, ◌/◌, ◌%◌, ◌≤◌, ◌<◌, ◌≡◌, true, length}
+use Rattle.std.specs.Prelude.{ℕ, ◌/◌, ◌%◌, ◌≤◌, ◌<◌, ◌≡◌, true, length, All}
 use mathlib.Core.List.{List, [], ◌∷◌, ◌++◌, flat_map}
 use Rattle.delivery.specs.Limits.{Limits}
 use Rattle.delivery.specs.Bus.{is_board}
@@ -18,11 +18,7 @@ event_laid e = e.kind ∷ e.a ∷ e.b ∷ e.id ∷ two_bytes e.value
 unfoldable pub laid : Contents → List ℕ
 laid f = length f.marks ∷ f.marks ++ two_bytes (length f.events) ++ flat_map event_laid f.events
 
--- every element of a list has a property; bytes are numbers below 256
-pub data All {A : Type 0} (P : A → Type 0) : List A → Type 0 where
-  none : All P []
-  more : {x : A} {xs : List A} → P x → All P xs → All P (x ∷ xs)
-
+-- each element of the list is a byte, a number below 256
 abbrev pub Bytes : List ℕ → Type 0
 Bytes bs = All (λ b. b < 256) bs
 

@@ -1,7 +1,8 @@
--- What is printed, as bytes.
-use Rattle.std.specs.Prelude.{ℕ, zero, suc, ◌+◌, ◌*◌, ◌/◌, ◌%◌, List, [], ◌∷◌, ◌++◌, length, Result, Ok, Err, nat_lt, nat_le}
+-- What is printed, as bytes. A number is printed as std's `decimal` of it: with no zero in front, and 0 as `0`. That is
+-- all of it for at most 64 digits.
+use Rattle.std.specs.Prelude.{ℕ, zero, suc, ◌+◌, ◌*◌, List, [], ◌∷◌, ◌++◌, length, Result, Ok, Err, nat_le}
 use Rattle.signer.specs.FromOne.{nth}
-use Rattle.std.specs.Prelude.{if◌then◌else◌}
+use Rattle.std.specs.Prelude.{if◌then◌else◌, decimal}
 use Rattle.delivery.specs.Limits.{Limits}
 use Rattle.bench.specs.Runs.{after, answers_to, written}
 use Rattle.bench.specs.Shows.{letter_byte, shown}
@@ -10,18 +11,6 @@ use Rattle.bench.specs.declared.show.Shown.{Shown}
 use Rattle.schedule.specs.Files.{fault_number, most_events, Reading, Contents, first_bench, file_due}
 use Rattle.schedule.specs.declared.fault.Fault.{Fault}
 use Rattle.schedule.specs.declared.report.TooShort.{TooShort}
-
--- A number in decimal, with no zero in front: below ten it is one digit, and from there on the decimal of its tenth part
--- and its last digit. `decimal_in` takes the most digits to write; m + 1 are always enough.
-abbrev pub digit : ℕ → ℕ
-digit d = 48 + d
-
-unfoldable pub decimal_in : ℕ → ℕ → List ℕ
-decimal_in zero m = []
-decimal_in (suc k) m = if nat_lt m 10 then digit m ∷ [] else decimal_in k (m / 10) ++ digit (m % 10) ∷ []
-
-unfoldable pub decimal : ℕ → List ℕ
-decimal m = decimal_in (suc m) m
 
 -- a line: words with a space between two, and the line end
 abbrev pub space : ℕ

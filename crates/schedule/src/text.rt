@@ -1,6 +1,6 @@
-ghost use Rattle.std.specs.Prelude.{◌+◌, ◌≤◌, ◌≡◌, [], ◌∷◌, length};
+ghost use Rattle.std.specs.Prelude.{◌+◌, ◌≤◌, ◌≡◌, [], ◌∷◌, length, decimal};
 ghost use Rattle.delivery.specs.Limits.{limits};
-ghost use Rattle.schedule.specs.Prints.{decimal, event_line, board_line, refused_line, longest_print};
+ghost use Rattle.schedule.specs.Prints.{event_line, board_line, refused_line, longest_print};
 ghost use Rattle.schedule.specs.Private.{Puts};
 
 use crate::fault::Fault;
@@ -31,7 +31,6 @@ impl Text<'_> {
     }
 
     // A number in decimal.
-    #[tactic(auto, using(crate::proofs::PrintLaws::std_decimal))]
     pub(crate) fn number(&mut self, m: u16)
         requires { self.old.length + length (decimal m) ≤ longest_print limits }
         ensures { Puts (decimal m) self.old.out self.old.length self.new.out self.new.length }

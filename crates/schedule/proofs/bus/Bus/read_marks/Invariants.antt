@@ -3,8 +3,8 @@
 use Prim.Native.Nat.{◌≤◌}
 use mathlib.Core.Path.{◌≡◌}
 use lib.ListN.{length, take}
+use Rattle.std.specs.Prelude.{All}
 use Rattle.delivery.specs.Limits.{limits}
-use Rattle.schedule.specs.Layouts.{All}
 use Rattle.schedule.specs.Readings.{padded}
 use Rattle.schedule.specs.Stops.{Mark}
 use Rattle.schedule.proofs.bus.Bus.read_marks.Given as goal
