@@ -20,7 +20,7 @@ use Rattle.bench.specs.Runs.{events_in}
 use Rattle.bench.specs.declared.event.Event.{Event}
 use Rattle.bench.proofs.AnswerLaws.{no_bus-is, no_mark-is}
 use Rattle.bench.proofs.RunLaws.{length-events}
-use Rattle.schedule.specs.Files.{Reading, got, fault, next, byte_due, bus_due, count_bytes, nothing_left, Contents, file_due, fault_number}
+use Rattle.schedule.specs.Files.{Reading, got, fault, next, byte_due, bus_due, count_bytes, nothing_left, Contents, file_due, fault_number, most_events}
 use Rattle.schedule.specs.Layouts.{Holdable}
 use Rattle.schedule.specs.Readings.{bus_in, bus_from, bus_of, section_of, schedule_in, schedule_from, schedule_of}
 use Rattle.schedule.specs.Stops.{Mark, Marked, Answered, counted, taken, ends-at-once, ends-in-marks, ends-in-count, ends-in-events, no-bus, no-mark, too-many, left-over}
@@ -77,7 +77,7 @@ pub record FileRead (bs : List ℕ) (f : Contents) : Type 0 where
   pub size : length rest ≡ event_bytes * length f.events
   pub events : events_in (length f.events) rest ≡ f.events
 
-module _ (n h l : ℕ) (ms bs : List ℕ) (f : Marked n ms) (few : counted h l ≤ 4096) (size : length bs ≡ 6 * counted h l) where
+module _ (n h l : ℕ) (ms bs : List ℕ) (f : Marked n ms) (few : counted h l ≤ most_events) (size : length bs ≡ 6 * counted h l) where
   pub file-taken : FileRead (n ∷ ms ++ h ∷ l ∷ bs) (file ms (events_in (high_first h l) bs))
   file-taken =
       record {
@@ -126,9 +126,9 @@ Found bs = (m : ℕ) × Answered bs m
 found-back : (n : ℕ) (ms cs : List ℕ) → Marked n ms → Found (n ∷ ms ++ cs)
 found-back n ms [] f = (1, ends-in-count n ms [] f (omega arith))
 found-back n ms (h ∷ []) f = (1, ends-in-count n ms (h ∷ []) f (omega arith))
-found-back n ms (h ∷ l ∷ bs) f = go (dec_le (counted h l) 4096) (dec_lt (length bs) (6 * counted h l)) (dec_lt (6 * counted h l) (length bs))
+found-back n ms (h ∷ l ∷ bs) f = go (dec_le (counted h l) most_events) (dec_lt (length bs) (6 * counted h l)) (dec_lt (6 * counted h l) (length bs))
   where
-    go : Dec (counted h l ≤ 4096) → Dec (length bs < 6 * counted h l) → Dec (6 * counted h l < length bs) → Found (n ∷ ms ++ h ∷ l ∷ bs)
+    go : Dec (counted h l ≤ most_events) → Dec (length bs < 6 * counted h l) → Dec (6 * counted h l < length bs) → Found (n ∷ ms ++ h ∷ l ∷ bs)
     go (no t) _ _ = (4, too-many n h l ms bs f (omega arith))
     go (yes t) (yes g) _ = (1, ends-in-events n h l ms bs f t g)
     go (yes t) (no g) (yes k) = (5, left-over n h l ms bs f t k)
@@ -136,9 +136,9 @@ found-back n ms (h ∷ l ∷ bs) f = go (dec_le (counted h l) 4096) (dec_lt (len
 
 found : (bs : List ℕ) → Found bs
 found [] = (1, ends-at-once)
-found (n ∷ bs) = go (dec_le 1 n) (dec_le n 7) (split n bs)
+found (n ∷ bs) = go (dec_le 1 n) (dec_le n limits.boards) (split n bs)
   where
-    go : {cs : List ℕ} → Dec (1 ≤ n) → Dec (n ≤ 7) → Split n cs → Found (n ∷ cs)
+    go : {cs : List ℕ} → Dec (1 ≤ n) → Dec (n ≤ limits.boards) → Split n cs → Found (n ∷ cs)
     go {cs} (no l) _ _ = (2, no-bus n cs (inl (omega arith)))
     go {cs} (yes l) (no h) _ = (2, no-bus n cs (inr (omega arith)))
     go (yes l) (yes h) (cut ms a f) = (1, ends-in-marks n ms (record { one = l; seven = h; marks = a }) f)
