@@ -14,9 +14,8 @@ use Rattle.delivery.specs.Limits.{Limits}
 use Rattle.vote.specs.Turns.{turn}
 use Rattle.vote.specs.declared.board.Status.TheVariants.{Idle, Voting}
 use Rattle.vote.specs.declared.statement.Statement.{Statement}
-use Rattle.vote.proofs.StatusLaws.{unstarted-idle, going-voting}
 use Rattle.vote.proofs.BallotLaws.{tally-won}
-use Rattle.vote.proofs.BoardLaws.{Convinced}
+use Rattle.vote.proofs.BoardLaws.{unstarted-idle, going-voting, Convinced}
 use Rattle.vote.proofs.CallLaws.{says-own}
 use Rattle.bench.specs.Events.{proposing, turning, delivering, announcing, signing, uses_other}
 use Rattle.bench.specs.Benches.{is_sound, board_at, signer_at, heard_by, signed_by}

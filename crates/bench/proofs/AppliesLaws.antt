@@ -8,7 +8,7 @@ use mathlib.Core.Logic.{◌⊎◌, inl, inr, ◌↔◌}
 use Rattle.std.proofs.lemmas.Bool.Decides.{nat_tests}
 use Rattle.signer.proofs.FromOneLaws.{within_low, within-high, within_in}
 use Rattle.delivery.specs.Limits.{limits}
-use Rattle.vote.proofs.StatusLaws.{unstarted-idle, idle-unstarted, decided-some, decided-decided, ended-some, ended-decided, ended-spent, has-decided, decided-has}
+use Rattle.vote.proofs.BoardLaws.{unstarted-idle, idle-unstarted, decided-some, decided-decided, ended-some, ended-decided, ended-spent, has-decided, decided-has}
 use Rattle.vote.specs.Turns.{turn_number}
 use Rattle.vote.specs.declared.turn.Refusal.TheVariants.{Ended}
 use Rattle.vote.proofs.TurnLaws.{turn-idle, turn-ended, not_started-is, ended-is, waiting-is}

@@ -15,7 +15,7 @@ use Rattle.vote.specs.Turns.{status_after}
 use Rattle.vote.specs.declared.board.Status.{Status}
 use Rattle.vote.specs.declared.board.Status.TheVariants.{Idle, Voting, Decided}
 use Rattle.vote.specs.declared.statement.Statement.{Statement}
-use Rattle.vote.proofs.StatusLaws.{decided-decided, decides-status, status-decides}
+use Rattle.vote.proofs.BoardLaws.{decided-decided, decides-status, status-decides}
 use Rattle.bench.specs.Events.{proposing, turning, delivering, announcing, signing}
 use Rattle.bench.specs.Setups.{Setup}
 use Rattle.bench.specs.Story.{Standing, hearing, hearing_said, move_of, saying, believing}

@@ -18,7 +18,7 @@ use Rattle.vote.specs.Boards.{hears}
 use Rattle.vote.specs.Turns.{turn, hears_own}
 use Rattle.vote.specs.declared.board.Board.{Board}
 use Rattle.vote.specs.declared.statement.Statement.{Statement}
-use Rattle.vote.proofs.StatusLaws.{idle-unstarted}
+use Rattle.vote.proofs.BoardLaws.{idle-unstarted}
 use Rattle.vote.proofs.CallLaws.{Taken, left, taken-leaves, turn-says, New, hears-new, own-none, own-some}
 use Rattle.bench.specs.Setups.{Setup}
 use Rattle.bench.specs.Events.{turning, delivering, signing}

@@ -1,26 +1,25 @@
--- Laws of a fresh board, and of the calls that are no turn: a proposal, a delivery, a suspicion, an announcement.
--- Assumes nothing.
+-- Laws of a board: how far it is, a fresh one, and what convinces one of an announcement. Assumes nothing.
 use Prim.Native.Nat.{ℕ}
 use native.Mathlib.Omega.{arith}
+use mathlib.Core.Logic.{◌⊎◌}
 use mathlib.Core.Path.{◌≡◌, refl}
 use mathlib.Core.Bool.{true, false}
 use Rattle.std.proofs.lemmas.Bool.Decides.{nat_tests}
 use Rattle.delivery.specs.Limits.{Limits}
-use Rattle.delivery.specs.Delivered.{nothing_delivered, heard, deliver}
-use Rattle.delivery.specs.Sets.{with_board, without_board}
-use Rattle.delivery.specs.declared.delivered.Delivered.{Delivered}
+use Rattle.delivery.specs.Delivered.{nothing_delivered, heard}
 use Rattle.signer.proofs.ConditionalLaws.{if-true, if-false}
 use Rattle.delivery.proofs.TestLaws.{and_in, and_right, and-no-left, and-no-right, neg-in, neg-no, or_left, or_right, or_no}
 use Rattle.delivery.proofs.AgreementLaws.{Won}
 use Rattle.vote.specs.Ballots.{tally}
-use Rattle.vote.specs.Boards.{fresh_position, fresh_board, is_started, is_decided, decision_of, with_status, starting_with, propose, hears, deliver_to, suspecting, suspect, trust}
-use Rattle.vote.specs.Announcements.{convinced, announce}
-use Rattle.vote.specs.declared.position.Stage.TheVariants.{Open}
-use Rattle.vote.specs.declared.position.Position.{Position}
-use Rattle.vote.specs.declared.statement.Statement.{Statement}
+use Rattle.vote.specs.Boards.{fresh_position, fresh_board, is_started, is_decided, is_ended, has_decided, decision_of}
+use Rattle.vote.specs.Announcements.{convinced}
 use Rattle.vote.specs.declared.board.Board.{Board}
-use Rattle.vote.specs.declared.board.Status.TheVariants.{Idle, Voting, Decided}
-use Rattle.vote.proofs.TurnLaws.{placed}
+use Rattle.vote.specs.Turns.{status_after}
+use Rattle.vote.specs.declared.rule.Move.{Move}
+use Rattle.vote.specs.declared.rule.Move.TheVariants.{Decides}
+use Rattle.vote.specs.declared.board.Decision.{Decision}
+use Rattle.vote.specs.declared.board.Status.{Status}
+use Rattle.vote.specs.declared.board.Status.TheVariants.{Idle, Voting, Spent, Decided}
 
 -- what convinces a board of an announcement
 pub record Convinced (L : Limits) (n : ℕ) (b : Board) (r v : ℕ) : Type 0 where
@@ -36,7 +35,7 @@ reads-convinced L n b r v c = grind (arith, nat_tests)
 pub ruleset tests =
     (if-true, if-false, and_in, and_right, and-no-left, and-no-right, neg-in, neg-no, or_left, or_right, or_no)
 
--- for the crates above: a fresh board, and what each call comes to
+-- for the crates above: a fresh board
 module _ (L : Limits) where
   pub fresh-position : (fresh_board L).position ≡ fresh_position
   unfolding fresh_board
@@ -54,38 +53,64 @@ module _ (L : Limits) where
   unfolding fresh_board
   fresh-status = refl
 
-module _ (b : Board) (v : ℕ) where
-  pub propose-starts : is_started b.status ≡ false → (v ≡ 0 → ⊥)
-      → propose b v ≡ placed b (record { 0 = 1 }) v Open b.delivered Voting
-  unfolding propose starting_with
-  propose-starts s z = grind (arith, nat_tests)
+-- one that has not started is idle, and one that has started and has not ended is voting
+pub unstarted-idle : (s : Status) → is_started s ≡ false → s ≡ Idle
+unfolding is_started
+unstarted-idle s h = grind arith
 
-  pub propose-position : is_started b.status ≡ false → (v ≡ 0 → ⊥) → (propose b v).position ≡ starting_with b.position v
-  unfolding propose
-  propose-position u z = grind (arith, nat_tests)
+pub going-voting : (s : Status) → is_started s ≡ true → is_ended s ≡ false → s ≡ Voting
+unfolding is_started is_ended
+going-voting s p q = grind arith
 
-  pub starting-estimate : (p : Position) → (starting_with p v).estimate ≡ v
-  unfolding starting_with
-  starting-estimate p = refl
+-- what is known of each status
+pub idle-unstarted : is_started Idle ≡ false
+unfolding is_started
+idle-unstarted = refl
 
-pub hears-delivers : (L : Limits) (d : Delivered) (s : Statement) → hears L d s ≡ deliver L d s.speaker s.id.0 s.value
-unfolding hears
-hears-delivers L d s = refl
+pub started-voting : is_started Voting ≡ true
+unfolding is_started
+started-voting = refl
 
-pub deliver-hears : (L : Limits) (b : Board) (s : Statement)
-    → deliver_to L b s ≡ record { position = b.position; delivered = hears L b.delivered s; status = b.status }
-unfolding deliver_to
-deliver-hears L b s = refl
+pub ended-spent : is_ended Spent ≡ true
+unfolding is_ended
+ended-spent = refl
 
-pub suspect-adds : (b : Board) (k : ℕ) → suspect b k ≡ suspecting b (with_board b.position.suspected k)
-unfolding suspect
-suspect-adds b k = refl
+pub ended-decided : (d : Decision) → is_ended (Decided d) ≡ true
+unfolding is_ended
+ended-decided d = refl
 
-pub trust-drops : (b : Board) (k : ℕ) → trust b k ≡ suspecting b (without_board b.position.suspected k)
-unfolding trust
-trust-drops b k = refl
+pub decided-decided : (d : Decision) → is_decided (Decided d) ≡ true
+unfolding is_decided
+decided-decided d = refl
 
-pub announce-decides : (L : Limits) (n : ℕ) (b : Board) (r v : ℕ) → convinced L n b r v ≡ true
-    → announce L n b r v ≡ record { position = b.position; delivered = b.delivered; status = Decided (decision_of r v) }
-unfolding announce with_status
-announce-decides L n b r v t = rw t
+-- one that is decided has a decision, and one that has ended is spent or has one
+pub decided-some : (s : Status) → is_decided s ≡ true → (d : Decision) × (s ≡ Decided d)
+unfolding is_decided
+decided-some s h = grind arith
+
+pub ended-some : (s : Status) → is_ended s ≡ true → (s ≡ Spent) ⊎ ((d : Decision) × (s ≡ Decided d))
+unfolding is_ended
+ended-some s h = grind arith
+
+-- a board decides one thing
+pub decided-one : (d c : Decision) → Decided d ≡ Decided c → d ≡ c
+decided-one d c e = cc
+
+-- whether it has decided a value in a round
+pub has-decided : (s : Status) (r v : ℕ) → has_decided s r v ≡ true → s ≡ Decided (decision_of r v)
+unfolding has_decided
+has-decided s r v h = grind (arith, nat_tests)
+
+pub decided-has : (s : Status) (r v : ℕ) → s ≡ Decided (decision_of r v) → has_decided s r v ≡ true
+unfolding has_decided
+decided-has s r v e = grind (arith, nat_tests)
+
+-- the move that makes a board decide
+pub decides-status : (r v : ℕ) → status_after r (Decides v) ≡ Decided (decision_of r v)
+unfolding status_after
+decides-status r v = refl
+
+pub status-decides : (r : ℕ) (m : Move) (d : Decision) → status_after r m ≡ Decided d
+    → (m ≡ Decides d.value) × (r ≡ d.round.0)
+unfolding status_after
+status-decides r m d e = grind arith
