@@ -17,7 +17,7 @@ use Rattle.vote.specs.Turns.{turn}
 use Rattle.vote.specs.Calls.{Call, proposal, own_turn, delivery, suspicion, restored-trust, announcement, called}
 use Rattle.vote.specs.declared.board.Board.{Board}
 use Rattle.vote.specs.declared.statement.Statement.{Statement}
-use Rattle.vote.proofs.LifeLaws.{called-proposal, called-turn, called-delivery, called-announcement, called-suspicion, called-trust}
+use Rattle.vote.proofs.LifeLaws.{call-comes}
 use Rattle.bench.specs.Events.{proposing, turning, delivering, announcing, suspecting, signing}
 use Rattle.bench.specs.Benches.{board_at, signer_at, holders}
 use Rattle.bench.specs.Effects.{with_board_at, with_signature, with_owed, after_saying, after_turn, after_hearing, brought, effect_of}
@@ -104,18 +104,7 @@ module _ {L : Limits} {c : Bench} {e : Event} (acc : Accepted L c e) where
       let low = within_low c.n e.a acc.within in
       let first = acc.low in
       let last = acc.high in
-      grind (
-        arith,
-        nat_tests,
-        nth-set-same,
-        nth-set-other,
-        called-proposal,
-        called-turn,
-        called-delivery,
-        called-announcement,
-        called-suspicion,
-        called-trust,
-      )
+      grind (arith, nat_tests, nth-set-same, nth-set-other, call-comes)
 
   pub signers-then : e.a ≤ length c.signers → (k : ℕ)
       → signer_at L (c' L c e) k ≡ put (signer_at L c) e.a (asked_for L c e (signer_at L c e.a) (said_then L c e)) k

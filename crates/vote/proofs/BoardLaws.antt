@@ -92,10 +92,6 @@ pub ended-some : (s : Status) → is_ended s ≡ true → (s ≡ Spent) ⊎ ((d 
 unfolding is_ended
 ended-some s h = grind arith
 
--- a board decides one thing
-pub decided-one : (d c : Decision) → Decided d ≡ Decided c → d ≡ c
-decided-one d c e = cc
-
 -- whether it has decided a value in a round
 pub has-decided : (s : Status) (r v : ℕ) → has_decided s r v ≡ true → s ≡ Decided (decision_of r v)
 unfolding has_decided
