@@ -1,7 +1,7 @@
 -- Laws of a board: how far it is, a fresh one, and what convinces one of an announcement. Assumes nothing.
 use Prim.Native.Nat.{ℕ}
 use native.Mathlib.Omega.{arith}
-use mathlib.Core.Logic.{◌⊎◌}
+use mathlib.Core.Logic.{◌⊎◌, ◌↔◌}
 use mathlib.Core.Path.{◌≡◌, refl}
 use mathlib.Core.Bool.{true, false}
 use Rattle.std.proofs.lemmas.Bool.Decides.{nat_tests}
@@ -36,61 +36,36 @@ pub ruleset tests =
     (if-true, if-false, and_in, and_right, and-no-left, and-no-right, neg-in, neg-no, or_left, or_right, or_no)
 
 -- for the crates above: a fresh board
-module _ (L : Limits) where
-  pub fresh-position : (fresh_board L).position ≡ fresh_position
-  unfolding fresh_board
-  fresh-position = refl
+pub fresh-is : (L : Limits)
+    → fresh_board L ≡ record { position = fresh_position; delivered = nothing_delivered L; status = Idle }
+unfolding fresh_board
+fresh-is L = refl
 
-  pub fresh-estimate : (fresh_board L).position.estimate ≡ 0
-  unfolding fresh_board fresh_position
-  fresh-estimate = refl
+pub fresh-estimate : fresh_position.estimate ≡ 0
+unfolding fresh_position
+fresh-estimate = refl
 
-  pub fresh-delivered : (fresh_board L).delivered ≡ nothing_delivered L
-  unfolding fresh_board
-  fresh-delivered = refl
-
-  pub fresh-status : (fresh_board L).status ≡ Idle
-  unfolding fresh_board
-  fresh-status = refl
-
--- one that has not started is idle, and one that has started and has not ended is voting
-pub unstarted-idle : (s : Status) → is_started s ≡ false → s ≡ Idle
+-- one that has not started is idle, one that is decided has a decision, and one that has ended is spent or has one
+pub is-idle : (s : Status) → (is_started s ≡ false) ↔ (s ≡ Idle)
 unfolding is_started
-unstarted-idle s h = grind arith
+is-idle s = (grind arith, grind arith)
 
+pub has-one : (s : Status) → (is_decided s ≡ true) ↔ ((d : Decision) × (s ≡ Decided d))
+unfolding is_decided
+has-one s = (grind arith, grind arith)
+
+pub is-over : (s : Status) → (is_ended s ≡ true) ↔ ((s ≡ Spent) ⊎ ((d : Decision) × (s ≡ Decided d)))
+unfolding is_ended
+is-over s = (grind arith, grind arith)
+
+-- one that has started and has not ended is voting
 pub going-voting : (s : Status) → is_started s ≡ true → is_ended s ≡ false → s ≡ Voting
 unfolding is_started is_ended
 going-voting s p q = grind arith
 
--- what is known of each status
-pub idle-unstarted : is_started Idle ≡ false
-unfolding is_started
-idle-unstarted = refl
-
 pub started-voting : is_started Voting ≡ true
 unfolding is_started
 started-voting = refl
-
-pub ended-spent : is_ended Spent ≡ true
-unfolding is_ended
-ended-spent = refl
-
-pub ended-decided : (d : Decision) → is_ended (Decided d) ≡ true
-unfolding is_ended
-ended-decided d = refl
-
-pub decided-decided : (d : Decision) → is_decided (Decided d) ≡ true
-unfolding is_decided
-decided-decided d = refl
-
--- one that is decided has a decision, and one that has ended is spent or has one
-pub decided-some : (s : Status) → is_decided s ≡ true → (d : Decision) × (s ≡ Decided d)
-unfolding is_decided
-decided-some s h = grind arith
-
-pub ended-some : (s : Status) → is_ended s ≡ true → (s ≡ Spent) ⊎ ((d : Decision) × (s ≡ Decided d))
-unfolding is_ended
-ended-some s h = grind arith
 
 -- whether it has decided a value in a round
 pub has-decided : (s : Status) (r v : ℕ) → has_decided s r v ≡ true → s ≡ Decided (decision_of r v)
