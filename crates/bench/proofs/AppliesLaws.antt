@@ -8,8 +8,8 @@ use mathlib.Core.Logic.{◌⊎◌, inl, inr, ◌↔◌}
 use Rattle.std.proofs.lemmas.Bool.Decides.{nat_tests}
 use Rattle.signer.proofs.FromOneLaws.{within_low, within-high, within_in}
 use Rattle.delivery.specs.Limits.{limits}
-use Rattle.vote.proofs.BoardLaws.{is-idle, has-one, is-over, has-decided, decided-has}
-use Rattle.vote.proofs.TurnLaws.{turn-idle, turn-ended, not_started-is, ended-is, waiting-is}
+use Rattle.vote.proofs.BoardLaws.{is-idle, has-one, is-over, has-decided}
+use Rattle.vote.proofs.TurnLaws.{turn-refused, not_started-is, ended-is, waiting-is}
 use Rattle.vote.specs.declared.board.Status.TheVariants.{Voting}
 use Rattle.bench.specs.Events.{uses_other, uses_id, uses_value}
 use Rattle.bench.specs.Benches.{board_at}
@@ -48,12 +48,12 @@ lowest A m ((false, r) ∷ _) (s next rows) = grind (arith, lowest A (suc m) _ r
 -- only a board that is voting has to wait in its turn
 must-vote : (c : Bench) (k : ℕ) → must_wait limits c k ≡ true → (board_at limits c k).status ≡ Voting
 unfolding must_wait is_waiting refuses
-must-vote c k = let e = is-over (board_at limits c k).status in grind (arith, turn-idle, turn-ended)
+must-vote c k = let t = turn-refused limits c.n k (board_at limits c k) in grind arith
 
 -- what is known of a row's tests
 ruleset fields = (arith, nat_tests, within_in, within_low, within-high)
 
-ruleset tests = (fields, is-idle, has-one, is-over, has-decided, decided-has, must-vote, wait-waits, wait-refuses, wait-neither)
+ruleset tests = (fields, is-idle, has-one, is-over, has-decided, must-vote, wait-waits, wait-refuses, wait-neither)
 
 -- the rows of the table are such rows, from 10 on
 module _ (c : Bench) (e : Event) where

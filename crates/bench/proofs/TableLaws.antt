@@ -1,13 +1,13 @@
 -- Laws of the table: of the kinds that an event may be of, of tests joined, and of the first row that applies.
 -- Assumes nothing.
-use Prim.Native.Nat.{ℕ, ◌≤◌}
+use Prim.Native.Nat.{ℕ}
 use mathlib.Core.Path.{◌≡◌, ap}
 use mathlib.Core.Bool.{Bool, true, false, not}
 use native.Mathlib.Omega.{arith}
 use Rattle.std.proofs.lemmas.Bool.Decides.{nat_tests}
-use Rattle.delivery.proofs.TestLaws.{and-yes-left, and-no-left, and-no-right, or_left, or_right, or_no, or-no-left, or-no-right, neg-no, neg-in, fails}
+use Rattle.delivery.proofs.TestLaws.{and-yes-left, and-no-left, and-no-right, or_left, or_right, or_no, or-no-left, or-no-right, neg-no, neg-in}
 use Rattle.signer.proofs.FromOneLaws.{within_low, within-high, within_in}
-use Rattle.bench.specs.Events.{turning, signing, kind_number, kind_of}
+use Rattle.bench.specs.Events.{turning, kind_number, kind_of}
 use Rattle.bench.specs.Table.{kind_row, start_row, end_row, first_of, state_rows}
 use Rattle.bench.specs.declared.event.Kind.{Kind}
 use Rattle.bench.specs.Benches.{board_at}
@@ -43,28 +43,14 @@ pub kind-known : (n : ℕ) (k : Kind) → kind_of n ≡ Ok k → kind_number k �
 unfolding kind_of kind_number
 kind-known n k h = grind (arith, nat_tests, h)
 
-kind-within : (k : Kind) → (1 ≤ kind_number k) × (kind_number k ≤ signing)
-unfolding kind_number
-kind-within k = (grind arith, grind arith)
-
-kind-none : (n : ℕ) (r : Refusal) → kind_of n ≡ Err r → (r ≡ NoKind) × (1 ≤ n → n ≤ signing → ⊥)
-unfolding kind_of
-kind-none n r h = (grind (arith, nat_tests, h), λ l u. grind (arith, nat_tests, h, l, u))
-
 pub kind-passes : (e : Event) (k : Kind) → kind_of e.kind ≡ Ok k → kind_row e ≡ false
-unfolding kind_row
-kind-passes e k h =
-    let n = kind-known e.kind k h in
-    neg-no _ (within_in signing e.kind (omega (arith, n, (kind-within k).0)) (omega (arith, n, (kind-within k).1)))
+unfolding kind_row kind_of
+kind-passes e k h = grind (arith, nat_tests, within_in, h)
 
 -- and row 10 stops an event of no kind
 pub kind-stops : (e : Event) (r : Refusal) → kind_of e.kind ≡ Err r → (kind_row e ≡ true) × (r ≡ NoKind)
-unfolding kind_row
-kind-stops e r h =
-    let none = kind-none e.kind r h in (
-      neg-in _ (fails _ (λ w. none.1 (within_low signing e.kind w) (within-high signing e.kind w))),
-      none.0,
-    )
+unfolding kind_row kind_of
+kind-stops e r h = (grind (arith, nat_tests, within_low, within-high, h), grind (arith, nat_tests, h))
 
 -- a kind, told from its number
 pub ruleset told_kinds = (kind-known, kind-passes, kind-stops)

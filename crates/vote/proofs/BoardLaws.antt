@@ -67,21 +67,12 @@ pub started-voting : is_started Voting ≡ true
 unfolding is_started
 started-voting = refl
 
--- whether it has decided a value in a round
-pub has-decided : (s : Status) (r v : ℕ) → has_decided s r v ≡ true → s ≡ Decided (decision_of r v)
+-- whether it has decided a value in a round, and the move that makes it decide
+pub has-decided : (s : Status) (r v : ℕ) → (has_decided s r v ≡ true) ↔ (s ≡ Decided (decision_of r v))
 unfolding has_decided
-has-decided s r v h = grind (arith, nat_tests)
+has-decided s r v = (grind (arith, nat_tests), grind (arith, nat_tests))
 
-pub decided-has : (s : Status) (r v : ℕ) → s ≡ Decided (decision_of r v) → has_decided s r v ≡ true
-unfolding has_decided
-decided-has s r v e = grind (arith, nat_tests)
-
--- the move that makes a board decide
-pub decides-status : (r v : ℕ) → status_after r (Decides v) ≡ Decided (decision_of r v)
+pub status-decides : (r : ℕ) (m : Move) (d : Decision)
+    → (status_after r m ≡ Decided d) ↔ ((m ≡ Decides d.value) × (r ≡ d.round.0))
 unfolding status_after
-decides-status r v = refl
-
-pub status-decides : (r : ℕ) (m : Move) (d : Decision) → status_after r m ≡ Decided d
-    → (m ≡ Decides d.value) × (r ≡ d.round.0)
-unfolding status_after
-status-decides r m d e = grind arith
+status-decides r m d = (grind arith, grind arith)

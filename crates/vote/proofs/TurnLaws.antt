@@ -7,12 +7,11 @@ use mathlib.Core.Logic.{◌⊎◌}
 use Rattle.delivery.specs.Limits.{Limits}
 use Rattle.delivery.specs.Delivered.{heard}
 use Rattle.delivery.specs.Acceptance.{accepts_opening}
-use Rattle.vote.specs.Boards.{is_ended}
 use Rattle.vote.specs.Rule.{rule}
 use Rattle.vote.specs.Turns.{turn_number, at_stage, position_after, status_after, said_in, hears_own, answer_to, refuse, take, turn_in, turn}
 use Rattle.vote.specs.declared.rule.Move.TheVariants.{Waits}
 use Rattle.vote.specs.declared.board.Board.{Board}
-use Rattle.vote.specs.declared.board.Status.TheVariants.{Idle, Voting}
+use Rattle.vote.specs.declared.board.Status.TheVariants.{Voting}
 use Rattle.vote.specs.declared.turn.Refusal.{Refusal}
 use Rattle.vote.specs.declared.turn.Refusal.TheVariants.{NotStarted, Ended, Waiting}
 use Rattle.vote.proofs.BallotLaws.{tally-opens}
@@ -44,13 +43,10 @@ unfolding turn_number
 waiting-is = refl
 
 module _ (L : Limits) (n me : ℕ) (b : Board) where
-  pub turn-idle : b.status ≡ Idle → turn L n me b ≡ refuse b NotStarted
+  pub turn-refused : (b.status ≡ Voting → ⊥)
+      → (turn L n me b ≡ refuse b NotStarted) ⊎ (turn L n me b ≡ refuse b Ended)
   unfolding turn turn_in
-  turn-idle e = rw e
-
-  pub turn-ended : is_ended b.status ≡ true → turn L n me b ≡ refuse b Ended
-  unfolding turn turn_in is_ended
-  turn-ended e = grind arith
+  turn-refused f = grind arith
 
   pub turn-voting : b.status ≡ Voting → turn L n me b ≡ take L me b (rule L n me b.position (heard L b.delivered))
   unfolding turn turn_in
