@@ -14,9 +14,8 @@ use Rattle.delivery.specs.Limits.{Limits}
 use Rattle.vote.specs.Turns.{turn}
 use Rattle.vote.specs.declared.board.Status.TheVariants.{Idle, Voting}
 use Rattle.vote.specs.declared.statement.Statement.{Statement}
-use Rattle.vote.proofs.StatusLaws.{unstarted-idle, going-voting}
 use Rattle.vote.proofs.BallotLaws.{tally-won}
-use Rattle.vote.proofs.BoardLaws.{Convinced}
+use Rattle.vote.proofs.BoardLaws.{is-idle, going-voting, Convinced}
 use Rattle.vote.proofs.CallLaws.{says-own}
 use Rattle.bench.specs.Events.{proposing, turning, delivering, announcing, signing, uses_other}
 use Rattle.bench.specs.Benches.{is_sound, board_at, signer_at, heard_by, signed_by}
@@ -76,7 +75,7 @@ module _ (L : Limits) (c : Bench) (e : Event) (p : Passed L c e) where
         granted =
             λ k.
             grants-above L.identifiers (signer_at L c e.a) e.id (grind (arith, nat_tests)) (grind (arith, nat_tests));
-        idle = λ k. unstarted-idle (board_at L c e.a).status (grind (arith, nat_tests));
+        idle = λ k. (is-idle (board_at L c e.a).status).0 (grind (arith, nat_tests));
         valued = λ k z. grind (arith, nat_tests);
         voting = λ k. going-voting (board_at L c e.a).status (grind (arith, nat_tests)) (grind (arith, nat_tests));
         speaks = λ k. let own = says-own L c.n e.a (board_at L c e.a) in grind (arith, nat_tests);

@@ -3,7 +3,7 @@ use Prim.Native.Nat.{ℕ}
 use native.Mathlib.Omega.{arith}
 use mathlib.Core.Path.{◌≡◌, refl}
 use mathlib.Core.Bool.{true, false}
-use Rattle.std.specs.Prelude.{Result, Ok, Err}
+use Rattle.std.specs.Prelude.{Result}
 use Rattle.delivery.specs.Limits.{Limits}
 use Rattle.vote.specs.Turns.{numbered}
 use Rattle.vote.proofs.TurnLaws.{refusal-within, not_started-is, ended-is, waiting-is}
@@ -30,11 +30,6 @@ pub ruleset turn_numbers = (not_started-is, ended-is, waiting-is)
 refusal-some : (r : Refusal) → refusal_number r ≡ 0 → ⊥
 unfolding refusal_number
 refusal-some r = grind (arith, refusal-within)
-
-pub accepted-ok : (a : Result (Unit {0}) Refusal) → is_accepted a ≡ true → (u : Unit {0}) × (a ≡ Ok u)
-unfolding is_accepted
-accepted-ok (Ok u) t = (u, refl)
-accepted-ok (Err r) t = grind arith
 
 -- an accepted event has its effect and is answered 0; a refused one leaves the bench as it was, and is not answered 0
 module _ (L : Limits) (c : Bench) (e : Event) where

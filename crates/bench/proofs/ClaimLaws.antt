@@ -25,8 +25,6 @@ use Rattle.std.specs.Prelude.{Some}
 use Rattle.vote.specs.Boards.{decision_of}
 use Rattle.vote.specs.declared.board.Status.TheVariants.{Decided as decided-with}
 use Rattle.bench.specs.Shows.{decided_as, shown}
-use Rattle.vote.specs.declared.board.Decision.{Decision}
-use Rattle.vote.proofs.StatusLaws.{decided-one}
 use Rattle.vote.proofs.ProperLaws.{voting-round}
 use Rattle.vote.specs.Life.{Signs, signs-opening, signs-ballot}
 use Rattle.vote.proofs.SigningLaws.{signs-due, turn-signs}
@@ -248,7 +246,7 @@ sure-agrees L n marks g H c y =
           λ k r r' v w p q.
           let d = ((y.tells.decided k r v).0 p).1 in
           let d' = ((y.tells.decided k r' w).0 q).1 in
-          ap (λ (d : Decision). d.round.0) (decided-one (decision_of r v) (decision_of r' w) (sym d ∙ d'));
+          grind arith;
       validity =
           λ k r v d.
           let o = won-opened L (setup L n marks).n (heard_by L c k) g.some-board r v (heard-won g y k r v d) in

@@ -2,7 +2,7 @@
 -- nothing.
 use Prim.Native.Nat.{ℕ, ◌≤◌}
 use native.Mathlib.Omega.{arith}
-use mathlib.Core.Path.{◌≡◌, refl, ap, ◌∙◌}
+use mathlib.Core.Path.{◌≡◌}
 use lib.ListN.{length}
 use Rattle.std.specs.Prelude.{if◌then◌else◌, Option, None, Some, ◌==◌}
 use Rattle.std.proofs.lemmas.Bool.Decides.{nat_tests}
@@ -13,14 +13,12 @@ use Rattle.signer.proofs.FromOneLaws.{nth-set-same, nth-set-other, length-set_nt
 use Rattle.delivery.specs.Limits.{Limits}
 use Rattle.delivery.specs.Owed.{after_signing, after_delivery}
 use Rattle.delivery.specs.declared.owed.Owed.{Owed}
-use Rattle.vote.specs.Boards.{propose, suspect, trust}
-use Rattle.vote.specs.Announcements.{announce}
 use Rattle.vote.specs.Turns.{turn}
 use Rattle.vote.specs.Calls.{Call, proposal, own_turn, delivery, suspicion, restored-trust, announcement, called}
 use Rattle.vote.specs.declared.board.Board.{Board}
 use Rattle.vote.specs.declared.statement.Statement.{Statement}
-use Rattle.vote.proofs.LifeLaws.{called-proposal, called-turn, called-delivery, called-announcement, called-suspicion, called-trust}
-use Rattle.bench.specs.Events.{proposing, turning, delivering, announcing, suspecting, trusting, signing}
+use Rattle.vote.proofs.LifeLaws.{call-comes}
+use Rattle.bench.specs.Events.{proposing, turning, delivering, announcing, suspecting, signing}
 use Rattle.bench.specs.Benches.{board_at, signer_at, holders}
 use Rattle.bench.specs.Effects.{with_board_at, with_signature, with_owed, after_saying, after_turn, after_hearing, brought, effect_of}
 use Rattle.bench.specs.declared.bench.Bench.{Bench}
@@ -44,30 +42,6 @@ module _ (L : Limits) (c : Bench) (e : Event) where
 
   abbrev pub c' : Bench
   c' = effect_of L c e
-
-  pub effect-proposing : e.kind ≡ proposing → c' ≡ with_board_at c e.a (propose b e.value)
-  unfolding effect_of
-  effect-proposing k = rw k
-
-  effect-turning : e.kind ≡ turning → c' ≡ after_turn L c e.a
-  unfolding effect_of
-  effect-turning k = rw k
-
-  effect-delivering : e.kind ≡ delivering → c' ≡ after_hearing L c e.a (brought e)
-  unfolding effect_of
-  effect-delivering k = rw k
-
-  pub effect-announcing : e.kind ≡ announcing → c' ≡ with_board_at c e.a (announce L c.n b e.id e.value)
-  unfolding effect_of
-  effect-announcing k = rw k
-
-  pub effect-suspecting : e.kind ≡ suspecting → c' ≡ with_board_at c e.a (suspect b e.b)
-  unfolding effect_of
-  effect-suspecting k = rw k
-
-  pub effect-trusting : e.kind ≡ trusting → c' ≡ with_board_at c e.a (trust b e.b)
-  unfolding effect_of
-  effect-trusting k = rw k
 
   -- its board then, and that this is as it was or as a call has made it
   unfoldable pub board_then : Board
@@ -93,19 +67,14 @@ module _ (L : Limits) (c : Bench) (e : Event) where
   owed_saying None = c.owed
   owed_saying (Some x) = after_signing L c.owed e.a x.id.0 c.sound (holders L c e.a x.id.0)
 
-  saying-owed : (x : Option Statement) → (after_saying L c e.a x).owed ≡ owed_saying x
-  unfolding after_saying with_owed owed_saying
-  saying-owed None = refl
-  saying-owed (Some x) = refl
-
   pub owed-turning : e.kind ≡ turning → c'.owed ≡ owed_saying (turn L c.n e.a b).signed
-  unfolding after_turn with_board_at
-  owed-turning k = ap (λ (d : Bench). d.owed) (effect-turning k) ∙ saying-owed (turn L c.n e.a b).signed
+  unfolding effect_of after_turn after_saying with_board_at with_owed owed_saying
+  owed-turning k = grind arith
 
   pub owed-delivering : e.kind ≡ delivering
       → c'.owed ≡ after_delivery L c.owed e.a e.b e.id c.sound (holders L c e.b e.id)
-  unfolding after_hearing with_board_at with_owed
-  owed-delivering k = ap (λ (d : Bench). d.owed) (effect-delivering k)
+  unfolding effect_of after_hearing with_board_at with_owed
+  owed-delivering k = rw k
 
   pub owed-kept : (e.kind ≡ turning → ⊥) → (e.kind ≡ delivering → ⊥) → c'.owed ≡ c.owed
   unfolding effect_of with_board_at with_signature
@@ -135,18 +104,7 @@ module _ {L : Limits} {c : Bench} {e : Event} (acc : Accepted L c e) where
       let low = within_low c.n e.a acc.within in
       let first = acc.low in
       let last = acc.high in
-      grind (
-        arith,
-        nat_tests,
-        nth-set-same,
-        nth-set-other,
-        called-proposal,
-        called-turn,
-        called-delivery,
-        called-announcement,
-        called-suspicion,
-        called-trust,
-      )
+      grind (arith, nat_tests, nth-set-same, nth-set-other, call-comes)
 
   pub signers-then : e.a ≤ length c.signers → (k : ℕ)
       → signer_at L (c' L c e) k ≡ put (signer_at L c) e.a (asked_for L c e (signer_at L c e.a) (said_then L c e)) k

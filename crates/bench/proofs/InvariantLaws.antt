@@ -17,13 +17,13 @@ use Rattle.delivery.specs.declared.owed.Owed.{Owed}
 use Rattle.delivery.proofs.SetLaws.{in-set_of-within}
 use Rattle.delivery.proofs.OwedLaws.{Whole, after-signing-whole, after-delivery-whole}
 use Rattle.vote.specs.Boards.{fresh_board}
-use Rattle.vote.specs.Calls.{Call, called}
+use Rattle.vote.specs.Calls.{Call, own_turn, called}
 use Rattle.vote.specs.Turns.{turn}
 use Rattle.vote.specs.declared.board.Board.{Board}
 use Rattle.vote.specs.declared.statement.Statement.{Statement}
 use Rattle.vote.proofs.SigningLaws.{due, signed-past}
 use Rattle.vote.proofs.ProperLaws.{Proper, voting-round, called-proper}
-use Rattle.vote.proofs.LifeLaws.{Grounded, called-turn, called-due, called-grounded}
+use Rattle.vote.proofs.LifeLaws.{Grounded, called-due, called-grounded, call-comes}
 use Rattle.vote.proofs.CallLaws.{New, turn-says}
 use Rattle.bench.specs.Events.{delivering, turning}
 use Rattle.bench.specs.Benches.{is_sound, holds, holders, board_at, signer_at, heard_by}
@@ -166,7 +166,7 @@ module _ {L : Limits} {c : Bench} (g : Ground L (setup_of c)) (f : Fit L (setup_
   in-turn : e.kind ≡ turning
       → (board_then L c e ≡ (turn L c.n e.a b).board) × (said_then L c e ≡ (turn L c.n e.a b).signed)
   unfolding board_then said_then call_of
-  in-turn k = let t = called-turn L c.n e.a b in (grind (arith, nat_tests), grind (arith, nat_tests))
+  in-turn k = let t = call-comes L c.n e.a b own_turn in (grind (arith, nat_tests), grind (arith, nat_tests))
 
   else-none : is_sound c e.a ≡ true → (e.kind ≡ turning → ⊥) → said_then L c e ≡ None
   unfolding said_then

@@ -24,7 +24,7 @@ use Rattle.vote.specs.Turns.{statement_of}
 use Rattle.vote.specs.declared.board.Status.TheVariants.{Voting}
 use Rattle.vote.specs.declared.board.Board.{Board}
 use Rattle.vote.specs.declared.statement.Statement.{Statement}
-use Rattle.vote.proofs.StatusLaws.{started-voting}
+use Rattle.vote.proofs.BoardLaws.{started-voting}
 use Rattle.vote.proofs.TurnLaws.{turn-voting, turn-estimate}
 use Rattle.vote.proofs.CallLaws.{turn-says, starts-with}
 use Rattle.vote.specs.Life.{Signs, signs-opening, signs-ballot}

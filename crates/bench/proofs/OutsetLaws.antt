@@ -17,8 +17,7 @@ use Rattle.delivery.proofs.SetLaws.{in-none}
 use Rattle.delivery.proofs.DeliveredLaws.{heard-nothing}
 use Rattle.delivery.proofs.OwedLaws.{nothing-whole, owed-nothing}
 use Rattle.vote.specs.Boards.{fresh_board}
-use Rattle.vote.specs.declared.position.Position.{Position}
-use Rattle.vote.proofs.BoardLaws.{fresh-position, fresh-estimate, fresh-delivered, fresh-status}
+use Rattle.vote.proofs.BoardLaws.{fresh-is, fresh-estimate}
 use Rattle.vote.specs.declared.board.Board.{Board}
 use Rattle.vote.specs.declared.board.Status.TheVariants.{Idle}
 use Rattle.vote.proofs.ProperLaws.{fresh-proper}
@@ -47,8 +46,8 @@ module _ (L : Limits) (S : Setup) where
   stands-fresh : standing_of L (fresh_board L) ≡ outset
   unfolding outset
   stands-fresh =
-      let p = fresh-position L in
-      let q = ap (heard L) (fresh-delivered L) ∙ fun_ext (λ (s : ℕ). fun_ext (heard-nothing L s)) in
+      let p = fresh-is L in
+      let q = fun_ext (λ (s : ℕ). fun_ext (heard-nothing L s)) in
       cc
 
   sees-nothing : view L empty ≡ nothing
@@ -57,7 +56,7 @@ module _ (L : Limits) (S : Setup) where
       λ j.
       record {
         stands = fun_ext (λ (k : ℕ). ap (standing_of L) (board-fresh L S.n S.sound k) ∙ stands-fresh) j;
-        status = fun_ext (λ (k : ℕ). ap (λ (b : Board). b.status) (board-fresh L S.n S.sound k) ∙ fresh-status L) j;
+        status = fun_ext (λ (k : ℕ). ap (λ (b : Board). b.status) (board-fresh L S.n S.sound k ∙ fresh-is L)) j;
         signed =
             fun_ext
             (λ (k : ℕ).
@@ -96,7 +95,7 @@ module _ (L : Limits) (S : Setup) where
   unfolding outset
   rooted-nothing =
       record {
-        estimates = λ k s n. absurd (n (ap (λ (p : Position). p.estimate) (sym (fresh-position L)) ∙ fresh-estimate L));
+        estimates = λ k s n. absurd (n fresh-estimate);
         openings = λ k r v s i e. absurd (omega (arith, e));
       }
 

@@ -15,7 +15,7 @@ use Rattle.vote.specs.Turns.{status_after}
 use Rattle.vote.specs.declared.board.Status.{Status}
 use Rattle.vote.specs.declared.board.Status.TheVariants.{Idle, Voting, Decided}
 use Rattle.vote.specs.declared.statement.Statement.{Statement}
-use Rattle.vote.proofs.StatusLaws.{decided-decided, decides-status, status-decides}
+use Rattle.vote.proofs.BoardLaws.{has-one, status-decides}
 use Rattle.bench.specs.Events.{proposing, turning, delivering, announcing, signing}
 use Rattle.bench.specs.Setups.{Setup}
 use Rattle.bench.specs.Story.{Standing, hearing, hearing_said, move_of, saying, believing}
@@ -105,8 +105,7 @@ module _ {L : Limits} {S : Setup} {V : View} {e : Event} (w : Lawful L S V e) (f
   replay-decides k r v =
       let t = V.stands e.a in
       let p = status-decides t.position.round.0 (move_of L S.n e.a t) (decision_of r v) in
-      let q = decides-status r v in
-      let u = decided-decided (decision_of r v) in
+      let u = has-one (Decided (decision_of r v)) in
       (grind (arith, nat_tests), grind (arith, nat_tests))
 
   pub replay-sane : Sane L S V'

@@ -18,7 +18,7 @@ use Rattle.vote.specs.Boards.{hears}
 use Rattle.vote.specs.Turns.{turn, hears_own}
 use Rattle.vote.specs.declared.board.Board.{Board}
 use Rattle.vote.specs.declared.statement.Statement.{Statement}
-use Rattle.vote.proofs.StatusLaws.{idle-unstarted}
+use Rattle.vote.proofs.BoardLaws.{is-idle}
 use Rattle.vote.proofs.CallLaws.{Taken, left, taken-leaves, turn-says, New, hears-new, own-none, own-some}
 use Rattle.bench.specs.Setups.{Setup}
 use Rattle.bench.specs.Events.{turning, delivering, signing}
@@ -54,7 +54,7 @@ module _ {L : Limits} {c : Bench} {e : Event} (acc : Accepted L c e) where
   -- it takes the call that the event is
   taken : (e.kind ≡ signing → ⊥) → Taken L c.n e.a b (call_of e)
   unfolding call_of
-  taken n = grind (arith, nat_tests, idle-unstarted)
+  taken n = let i = is-idle b.status in grind (arith, nat_tests)
 
   left-then : board_then L c e ≡ (if e.kind == signing then b else left L c.n e.a b (call_of e))
   unfolding board_then

@@ -1,22 +1,21 @@
 -- Laws of the table: of the kinds that an event may be of, of tests joined, and of the first row that applies.
 -- Assumes nothing.
-use Prim.Native.Nat.{ℕ, ◌≤◌}
-use mathlib.Core.Path.{◌≡◌, refl, ap, ◌∙◌}
+use Prim.Native.Nat.{ℕ}
+use mathlib.Core.Path.{◌≡◌, ap}
 use mathlib.Core.Bool.{Bool, true, false, not}
-use mathlib.Core.List.{List, [], ◌∷◌, ◌++◌}
 use native.Mathlib.Omega.{arith}
 use Rattle.std.proofs.lemmas.Bool.Decides.{nat_tests}
-use Rattle.delivery.proofs.TestLaws.{and-yes-left, and-no-left, and-no-right, or_left, or_right, or_no, or-no-left, or-no-right, neg-no, neg-in, fails}
+use Rattle.delivery.proofs.TestLaws.{and-yes-left, and-no-left, and-no-right, or_left, or_right, or_no, or-no-left, or-no-right, neg-no, neg-in}
 use Rattle.signer.proofs.FromOneLaws.{within_low, within-high, within_in}
-use Rattle.bench.specs.Events.{turning, signing, kind_number, kind_of}
-use Rattle.bench.specs.Table.{kind_row, start_row, end_row, first_of, event_rows, state_rows, turn_rows, check_of}
+use Rattle.bench.specs.Events.{turning, kind_number, kind_of}
+use Rattle.bench.specs.Table.{kind_row, start_row, end_row, first_of, state_rows}
 use Rattle.bench.specs.declared.event.Kind.{Kind}
 use Rattle.bench.specs.Benches.{board_at}
 use Rattle.vote.specs.declared.board.Status.TheVariants.{Voting}
-use Rattle.vote.proofs.StatusLaws.{going-voting}
+use Rattle.vote.proofs.BoardLaws.{going-voting}
 use Rattle.bench.specs.declared.bench.Bench.{Bench}
 use Rattle.bench.specs.declared.event.Event.{Event}
-use Rattle.std.specs.Prelude.{Result, Ok, Err, if◌then◌else◌}
+use Rattle.std.specs.Prelude.{Ok, Err}
 use Rattle.bench.specs.declared.answer.Refusal.{Refusal}
 use Rattle.bench.specs.declared.answer.Refusal.TheVariants.{NoKind}
 use Rattle.delivery.specs.Limits.{Limits}
@@ -28,20 +27,6 @@ not_same false b h = ap not h
 
 -- tests joined, as the rows join them
 pub ruleset joined_tests = (and-yes-left, and-no-left, and-no-right, or_left, or_right, or_no, or-no-left, or-no-right, neg-no, neg-in, not_same)
-
--- some rows, and then others, give what the first of the former gives; and where none of these applies, what the others
--- give
-rows-refuse : (xs ys : List (Bool × Refusal)) (r : Refusal) → first_of xs ≡ Err r → first_of (xs ++ ys) ≡ Err r
-unfolding first_of
-rows-refuse [] ys r h = grind (arith, h)
-rows-refuse ((true, a) ∷ xs) ys r h = h
-rows-refuse ((false, a) ∷ xs) ys r h = rows-refuse xs ys r h
-
-rows-pass : (xs ys : List (Bool × Refusal)) (u : Unit {0}) → first_of xs ≡ Ok u → first_of (xs ++ ys) ≡ first_of ys
-unfolding first_of
-rows-pass [] ys u h = refl
-rows-pass ((true, a) ∷ xs) ys u h = grind (arith, h)
-rows-pass ((false, a) ∷ xs) ys u h = rows-pass xs ys u h
 
 -- a board whose turn no row before row 22 refuses is voting
 pub state-voting : (L : Limits) (c : Bench) (e : Event) (u : Unit {0}) → first_of (state_rows L c e) ≡ Ok u
@@ -58,73 +43,14 @@ pub kind-known : (n : ℕ) (k : Kind) → kind_of n ≡ Ok k → kind_number k �
 unfolding kind_of kind_number
 kind-known n k h = grind (arith, nat_tests, h)
 
-kind-within : (k : Kind) → (1 ≤ kind_number k) × (kind_number k ≤ signing)
-unfolding kind_number
-kind-within k = (grind arith, grind arith)
-
-kind-none : (n : ℕ) (r : Refusal) → kind_of n ≡ Err r → (r ≡ NoKind) × (1 ≤ n → n ≤ signing → ⊥)
-unfolding kind_of
-kind-none n r h = (grind (arith, nat_tests, h), λ l u. grind (arith, nat_tests, h, l, u))
-
 pub kind-passes : (e : Event) (k : Kind) → kind_of e.kind ≡ Ok k → kind_row e ≡ false
-unfolding kind_row
-kind-passes e k h =
-    let n = kind-known e.kind k h in
-    neg-no _ (within_in signing e.kind (omega (arith, n, (kind-within k).0)) (omega (arith, n, (kind-within k).1)))
+unfolding kind_row kind_of
+kind-passes e k h = grind (arith, nat_tests, within_in, h)
 
 -- and row 10 stops an event of no kind
 pub kind-stops : (e : Event) (r : Refusal) → kind_of e.kind ≡ Err r → (kind_row e ≡ true) × (r ≡ NoKind)
-unfolding kind_row
-kind-stops e r h =
-    let none = kind-none e.kind r h in (
-      neg-in _ (fails _ (λ w. none.1 (within_low signing e.kind w) (within-high signing e.kind w))),
-      none.0,
-    )
+unfolding kind_row kind_of
+kind-stops e r h = (grind (arith, nat_tests, within_low, within-high, h), grind (arith, nat_tests, h))
 
 -- a kind, told from its number
 pub ruleset told_kinds = (kind-known, kind-passes, kind-stops)
-
--- what the table gives where a row before row 22 stops the event, and where none of them does; k is the event with its
--- kind told
-module _ (L : Limits) (c : Bench) (e : Event) where
-  abbrev told : Result Event Refusal
-  told = if kind_row e then Err NoKind else Ok e
-
-  told-so : (k : Event) → told ≡ Ok k → (kind_row e ≡ false) × (k ≡ e)
-  told-so k h = (grind (arith, h), grind (arith, h))
-
-  pub check-kind : (r : Refusal) → told ≡ Err r → check_of L c e ≡ Err r
-  unfolding check_of first_of
-  check-kind r h = grind (arith, h)
-
-  module _ (k : Event) (known : told ≡ Ok k) where
-    passes : check_of L c e ≡ first_of (event_rows L c e ++ (state_rows L c e ++ turn_rows L c e))
-    unfolding check_of first_of
-    passes = let row = (told-so k known).0 in grind arith
-
-    pub check-event : (r : Refusal) → first_of (event_rows L c k) ≡ Err r → check_of L c e ≡ Err r
-    check-event r h =
-        passes
-        ∙ rows-refuse (event_rows L c e) (state_rows L c e ++ turn_rows L c e) r (rw (told-so k known).1 at h)
-
-    module _ (u : Unit {0}) (p : first_of (event_rows L c k) ≡ Ok u) where
-      goes_on : check_of L c e ≡ first_of (state_rows L c e ++ turn_rows L c e)
-      goes_on =
-          passes
-          ∙ rows-pass (event_rows L c e) (state_rows L c e ++ turn_rows L c e) u (rw (told-so k known).1 at p)
-
-      pub check-state : (r : Refusal) → first_of (state_rows L c k) ≡ Err r → check_of L c e ≡ Err r
-      check-state r h =
-          goes_on
-          ∙ rows-refuse (state_rows L c e) (turn_rows L c e) r (rw (told-so k known).1 at h)
-
-      pub check-turn : (v : Unit {0}) → first_of (state_rows L c k) ≡ Ok v
-          → (k ≡ e)
-          × (e.kind ≡ turning → (board_at L c e.a).status ≡ Voting)
-          × (check_of L c e ≡ first_of (turn_rows L c e))
-      check-turn v q =
-          let state : first_of (state_rows L c e) ≡ Ok v = rw (told-so k known).1 at q in (
-            (told-so k known).1,
-            state-voting L c e v state,
-            goes_on ∙ rows-pass (state_rows L c e) (turn_rows L c e) v state,
-          )

@@ -1,26 +1,25 @@
--- Laws of a fresh board, and of the calls that are no turn: a proposal, a delivery, a suspicion, an announcement.
--- Assumes nothing.
+-- Laws of a board: how far it is, a fresh one, and what convinces one of an announcement. Assumes nothing.
 use Prim.Native.Nat.{ℕ}
 use native.Mathlib.Omega.{arith}
+use mathlib.Core.Logic.{◌⊎◌, ◌↔◌}
 use mathlib.Core.Path.{◌≡◌, refl}
 use mathlib.Core.Bool.{true, false}
 use Rattle.std.proofs.lemmas.Bool.Decides.{nat_tests}
 use Rattle.delivery.specs.Limits.{Limits}
-use Rattle.delivery.specs.Delivered.{nothing_delivered, heard, deliver}
-use Rattle.delivery.specs.Sets.{with_board, without_board}
-use Rattle.delivery.specs.declared.delivered.Delivered.{Delivered}
+use Rattle.delivery.specs.Delivered.{nothing_delivered, heard}
 use Rattle.signer.proofs.ConditionalLaws.{if-true, if-false}
 use Rattle.delivery.proofs.TestLaws.{and_in, and_right, and-no-left, and-no-right, neg-in, neg-no, or_left, or_right, or_no}
 use Rattle.delivery.proofs.AgreementLaws.{Won}
 use Rattle.vote.specs.Ballots.{tally}
-use Rattle.vote.specs.Boards.{fresh_position, fresh_board, is_started, is_decided, decision_of, with_status, starting_with, propose, hears, deliver_to, suspecting, suspect, trust}
-use Rattle.vote.specs.Announcements.{convinced, announce}
-use Rattle.vote.specs.declared.position.Stage.TheVariants.{Open}
-use Rattle.vote.specs.declared.position.Position.{Position}
-use Rattle.vote.specs.declared.statement.Statement.{Statement}
+use Rattle.vote.specs.Boards.{fresh_position, fresh_board, is_started, is_decided, is_ended, has_decided, decision_of}
+use Rattle.vote.specs.Announcements.{convinced}
 use Rattle.vote.specs.declared.board.Board.{Board}
-use Rattle.vote.specs.declared.board.Status.TheVariants.{Idle, Voting, Decided}
-use Rattle.vote.proofs.TurnLaws.{placed}
+use Rattle.vote.specs.Turns.{status_after}
+use Rattle.vote.specs.declared.rule.Move.{Move}
+use Rattle.vote.specs.declared.rule.Move.TheVariants.{Decides}
+use Rattle.vote.specs.declared.board.Decision.{Decision}
+use Rattle.vote.specs.declared.board.Status.{Status}
+use Rattle.vote.specs.declared.board.Status.TheVariants.{Idle, Voting, Spent, Decided}
 
 -- what convinces a board of an announcement
 pub record Convinced (L : Limits) (n : ℕ) (b : Board) (r v : ℕ) : Type 0 where
@@ -36,56 +35,44 @@ reads-convinced L n b r v c = grind (arith, nat_tests)
 pub ruleset tests =
     (if-true, if-false, and_in, and_right, and-no-left, and-no-right, neg-in, neg-no, or_left, or_right, or_no)
 
--- for the crates above: a fresh board, and what each call comes to
-module _ (L : Limits) where
-  pub fresh-position : (fresh_board L).position ≡ fresh_position
-  unfolding fresh_board
-  fresh-position = refl
+-- for the crates above: a fresh board
+pub fresh-is : (L : Limits)
+    → fresh_board L ≡ record { position = fresh_position; delivered = nothing_delivered L; status = Idle }
+unfolding fresh_board
+fresh-is L = refl
 
-  pub fresh-estimate : (fresh_board L).position.estimate ≡ 0
-  unfolding fresh_board fresh_position
-  fresh-estimate = refl
+pub fresh-estimate : fresh_position.estimate ≡ 0
+unfolding fresh_position
+fresh-estimate = refl
 
-  pub fresh-delivered : (fresh_board L).delivered ≡ nothing_delivered L
-  unfolding fresh_board
-  fresh-delivered = refl
+-- one that has not started is idle, one that is decided has a decision, and one that has ended is spent or has one
+pub is-idle : (s : Status) → (is_started s ≡ false) ↔ (s ≡ Idle)
+unfolding is_started
+is-idle s = (grind arith, grind arith)
 
-  pub fresh-status : (fresh_board L).status ≡ Idle
-  unfolding fresh_board
-  fresh-status = refl
+pub has-one : (s : Status) → (is_decided s ≡ true) ↔ ((d : Decision) × (s ≡ Decided d))
+unfolding is_decided
+has-one s = (grind arith, grind arith)
 
-module _ (b : Board) (v : ℕ) where
-  pub propose-starts : is_started b.status ≡ false → (v ≡ 0 → ⊥)
-      → propose b v ≡ placed b (record { 0 = 1 }) v Open b.delivered Voting
-  unfolding propose starting_with
-  propose-starts s z = grind (arith, nat_tests)
+pub is-over : (s : Status) → (is_ended s ≡ true) ↔ ((s ≡ Spent) ⊎ ((d : Decision) × (s ≡ Decided d)))
+unfolding is_ended
+is-over s = (grind arith, grind arith)
 
-  pub propose-position : is_started b.status ≡ false → (v ≡ 0 → ⊥) → (propose b v).position ≡ starting_with b.position v
-  unfolding propose
-  propose-position u z = grind (arith, nat_tests)
+-- one that has started and has not ended is voting
+pub going-voting : (s : Status) → is_started s ≡ true → is_ended s ≡ false → s ≡ Voting
+unfolding is_started is_ended
+going-voting s p q = grind arith
 
-  pub starting-estimate : (p : Position) → (starting_with p v).estimate ≡ v
-  unfolding starting_with
-  starting-estimate p = refl
+pub started-voting : is_started Voting ≡ true
+unfolding is_started
+started-voting = refl
 
-pub hears-delivers : (L : Limits) (d : Delivered) (s : Statement) → hears L d s ≡ deliver L d s.speaker s.id.0 s.value
-unfolding hears
-hears-delivers L d s = refl
+-- whether it has decided a value in a round, and the move that makes it decide
+pub has-decided : (s : Status) (r v : ℕ) → (has_decided s r v ≡ true) ↔ (s ≡ Decided (decision_of r v))
+unfolding has_decided
+has-decided s r v = (grind (arith, nat_tests), grind (arith, nat_tests))
 
-pub deliver-hears : (L : Limits) (b : Board) (s : Statement)
-    → deliver_to L b s ≡ record { position = b.position; delivered = hears L b.delivered s; status = b.status }
-unfolding deliver_to
-deliver-hears L b s = refl
-
-pub suspect-adds : (b : Board) (k : ℕ) → suspect b k ≡ suspecting b (with_board b.position.suspected k)
-unfolding suspect
-suspect-adds b k = refl
-
-pub trust-drops : (b : Board) (k : ℕ) → trust b k ≡ suspecting b (without_board b.position.suspected k)
-unfolding trust
-trust-drops b k = refl
-
-pub announce-decides : (L : Limits) (n : ℕ) (b : Board) (r v : ℕ) → convinced L n b r v ≡ true
-    → announce L n b r v ≡ record { position = b.position; delivered = b.delivered; status = Decided (decision_of r v) }
-unfolding announce with_status
-announce-decides L n b r v t = rw t
+pub status-decides : (r : ℕ) (m : Move) (d : Decision)
+    → (status_after r m ≡ Decided d) ↔ ((m ≡ Decides d.value) × (r ≡ d.round.0))
+unfolding status_after
+status-decides r m d = (grind arith, grind arith)

@@ -1,4 +1,3 @@
-pub mod StatusLaws
 pub mod BallotLaws
 pub mod ActLaws
 pub mod RuleLaws

@@ -1,7 +1,7 @@
 -- Laws of a board's whole life, whatever is asked of it and in whatever order. Assumes nothing.
 use Prim.Native.Nat.{ℕ, suc, ◌≤◌, ◌<◌}
 use native.Mathlib.Omega.{arith}
-use mathlib.Core.Path.{◌≡◌, refl}
+use mathlib.Core.Path.{◌≡◌}
 use mathlib.Core.List.{List, [], ◌∷◌}
 use mathlib.Core.Logic.{◌⊎◌}
 use Rattle.std.specs.Prelude.{Option, None, Some, IfSome}
@@ -112,26 +112,14 @@ statements-rise L n me some b p (c ∷ cs) =
 
 -- for the crates above: what each call comes to
 module _ (L : Limits) (n me : ℕ) (b : Board) where
-  pub called-proposal : (v : ℕ) → called L n me b (proposal v) ≡ propose b v
-  unfolding called
-  called-proposal v = refl
+  abbrev pub comes_to : Call → Board
+  comes_to (proposal v) = propose b v
+  comes_to own_turn = (turn L n me b).board
+  comes_to (delivery s) = deliver_to L b s
+  comes_to (announcement r v) = announce L n b r v
+  comes_to (suspicion k) = suspect b k
+  comes_to (restored-trust k) = trust b k
 
-  pub called-turn : called L n me b own_turn ≡ (turn L n me b).board
+  pub call-comes : (c : Call) → called L n me b c ≡ comes_to c
   unfolding called
-  called-turn = refl
-
-  pub called-delivery : (s : Statement) → called L n me b (delivery s) ≡ deliver_to L b s
-  unfolding called
-  called-delivery s = refl
-
-  pub called-suspicion : (k : ℕ) → called L n me b (suspicion k) ≡ suspect b k
-  unfolding called
-  called-suspicion k = refl
-
-  pub called-trust : (k : ℕ) → called L n me b (restored-trust k) ≡ trust b k
-  unfolding called
-  called-trust k = refl
-
-  pub called-announcement : (r v : ℕ) → called L n me b (announcement r v) ≡ announce L n b r v
-  unfolding called
-  called-announcement r v = refl
+  call-comes c = grind arith

@@ -1,24 +1,23 @@
 -- Laws of what a board signs: what its stage says, and under identifiers that rise. Assumes nothing.
 use Prim.Native.Nat.{ℕ, suc, ◌<◌}
 use native.Mathlib.Omega.{arith}
-use mathlib.Core.Path.{◌≡◌, refl}
+use mathlib.Core.Path.{◌≡◌}
 use mathlib.Core.Bool.{true}
-use Rattle.std.specs.Prelude.{Option, None, Some}
+use Rattle.std.specs.Prelude.{Some}
 use Rattle.std.specs.Prelude.{if◌then◌else◌}
 use Rattle.delivery.specs.Limits.{Limits}
 use Rattle.delivery.specs.Rounds.{is_round, identifier_of}
 use Rattle.delivery.specs.Delivered.{heard}
 use Rattle.delivery.specs.declared.round.Phase.TheVariants.{Opening, Ballot}
 use Rattle.delivery.proofs.RoundLaws.{opening-ballot}
-use Rattle.vote.specs.Boards.{is_started, hears}
-use Rattle.vote.specs.Turns.{at_stage, position_after, status_after, said_in, hears_own, turn_in, turn}
+use Rattle.vote.specs.Boards.{is_started}
+use Rattle.vote.specs.Turns.{at_stage, position_after, status_after, said_in, turn_in, turn}
 use Rattle.vote.specs.Life.{Signs, signs-opening, signs-ballot}
 use Rattle.vote.specs.declared.position.Stage.{Stage}
 use Rattle.vote.specs.declared.position.Stage.TheVariants.{Open, Vote, Count}
 use Rattle.vote.specs.declared.statement.Statement.{Statement}
 use Rattle.vote.specs.declared.board.Board.{Board}
 use Rattle.vote.specs.declared.board.Status.TheVariants.{Voting}
-use Rattle.vote.specs.declared.turn.Turn.{Turn}
 use Rattle.vote.proofs.RuleLaws.{rule-makes}
 
 -- the lowest identifier under which a board may still sign: at A its round's opening, at B its ballot, at C whatever
@@ -49,24 +48,3 @@ module _ (L : Limits) (n me : ℕ) (b : Board) where
   signed-past s e i =
       let m = rule-makes L n me b.position (heard L b.delivered) in
       grind (arith, opening-ballot)
-
-  -- for the crates above
-  pub data Speech (t : Turn) : Type 0 where
-    silent : t.signed ≡ None → t.board.delivered ≡ b.delivered → Speech t
-    speaks : (s : Statement) → Signs L n me b s → t.signed ≡ Some s → t.board.delivered ≡ hears L b.delivered s
-        → (is_round L b.position.round.0 ≡ true → due L b < due L t.board) → Speech t
-
-  turn-hears : (o : Option Statement) → (turn L n me b).signed ≡ o
-      → (turn L n me b).board.delivered ≡ hears_own L b.delivered o
-  unfolding turn turn_in hears_own
-  turn-hears o e = grind arith
-
-  pub turn-speech : Speech (turn L n me b)
-  unfolding hears_own
-  turn-speech = go (turn L n me b).signed refl
-    where
-      go : (o : Option Statement) → (turn L n me b).signed ≡ o → Speech (turn L n me b)
-      go None e = silent e (turn-hears None e)
-      go (Some s) e =
-          let x = turn-signs s e in
-          speaks s x e (turn-hears (Some s) e) (λ i. omega (arith, signs-due s x, signed-past s e (λ v. i)))
