@@ -6,7 +6,7 @@ use mathlib.Core.Bool.{Bool, true, false, not}
 use mathlib.Core.List.{List, [], ◌∷◌, ◌++◌}
 use native.Mathlib.Omega.{arith}
 use Rattle.std.proofs.lemmas.Bool.Decides.{nat_tests}
-use Rattle.delivery.proofs.TestLaws.{and-yes-left, and-no-left, and-no-right, or_left, or_right, or_no, or-no-left, or-no-right, neg-no, neg-in, fails}
+use Rattle.std.proofs.lemmas.Bool.{not_from_true, not_from_false, false_from_ne_true}
 use Rattle.signer.proofs.FromOneLaws.{within_low, within-high, within_in}
 use Rattle.bench.specs.Events.{turning, signing, kind_number, kind_of}
 use Rattle.bench.specs.Table.{kind_row, start_row, end_row, first_of, event_rows, state_rows, turn_rows, check_of}
@@ -27,7 +27,7 @@ not_same true b h = ap not h
 not_same false b h = ap not h
 
 -- tests joined, as the rows join them
-pub ruleset joined_tests = (and-yes-left, and-no-left, and-no-right, or_left, or_right, or_no, or-no-left, or-no-right, neg-no, neg-in, not_same)
+pub ruleset joined_tests = (not_same)
 
 -- some rows, and then others, give what the first of the former gives; and where none of these applies, what the others
 -- give
@@ -70,14 +70,14 @@ pub kind-passes : (e : Event) (k : Kind) → kind_of e.kind ≡ Ok k → kind_ro
 unfolding kind_row
 kind-passes e k h =
     let n = kind-known e.kind k h in
-    neg-no _ (within_in signing e.kind (omega (arith, n, (kind-within k).0)) (omega (arith, n, (kind-within k).1)))
+    not_from_true _ (within_in signing e.kind (omega (arith, n, (kind-within k).0)) (omega (arith, n, (kind-within k).1)))
 
 -- and row 10 stops an event of no kind
 pub kind-stops : (e : Event) (r : Refusal) → kind_of e.kind ≡ Err r → (kind_row e ≡ true) × (r ≡ NoKind)
 unfolding kind_row
 kind-stops e r h =
     let none = kind-none e.kind r h in (
-      neg-in _ (fails _ (λ w. none.1 (within_low signing e.kind w) (within-high signing e.kind w))),
+      not_from_false _ (false_from_ne_true _ (λ w. none.1 (within_low signing e.kind w) (within-high signing e.kind w))),
       none.0,
     )
 

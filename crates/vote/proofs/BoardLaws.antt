@@ -9,8 +9,6 @@ use Rattle.delivery.specs.Limits.{Limits}
 use Rattle.delivery.specs.Delivered.{nothing_delivered, heard, deliver}
 use Rattle.delivery.specs.Sets.{with_board, without_board}
 use Rattle.delivery.specs.declared.delivered.Delivered.{Delivered}
-use Rattle.signer.proofs.ConditionalLaws.{if-true, if-false}
-use Rattle.delivery.proofs.TestLaws.{and_in, and_right, and-no-left, and-no-right, neg-in, neg-no, or_left, or_right, or_no}
 use Rattle.delivery.proofs.AgreementLaws.{Won}
 use Rattle.vote.specs.Ballots.{tally}
 use Rattle.vote.specs.Boards.{fresh_position, fresh_board, is_started, is_decided, decision_of, with_status, starting_with, propose, hears, deliver_to, suspecting, suspect, trust}
@@ -31,10 +29,6 @@ pub record Convinced (L : Limits) (n : ℕ) (b : Board) (r v : ℕ) : Type 0 whe
 pub reads-convinced : (L : Limits) (n : ℕ) (b : Board) (r v : ℕ) → Convinced L n b r v → convinced L n b r v ≡ true
 unfolding convinced is_decided tally
 reads-convinced L n b r v c = grind (arith, nat_tests)
-
--- what the program goes by where it tests
-pub ruleset tests =
-    (if-true, if-false, and_in, and_right, and-no-left, and-no-right, neg-in, neg-no, or_left, or_right, or_no)
 
 -- for the crates above: a fresh board, and what each call comes to
 module _ (L : Limits) where
