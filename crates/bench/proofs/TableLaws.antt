@@ -1,4 +1,4 @@
--- Laws of the table: of the kinds that an event may be of, of tests joined, and of the first row that applies.
+-- Laws of the table: of the kinds that an event may be of, and of the first row that applies.
 -- Assumes nothing.
 use Prim.Native.Nat.{ℕ, ◌≤◌}
 use mathlib.Core.Path.{◌≡◌, refl, ap, ◌∙◌}
@@ -20,14 +20,6 @@ use Rattle.std.specs.Prelude.{Result, Ok, Err, if◌then◌else◌}
 use Rattle.bench.specs.declared.answer.Refusal.{Refusal}
 use Rattle.bench.specs.declared.answer.Refusal.TheVariants.{NoKind}
 use Rattle.delivery.specs.Limits.{Limits}
-
--- what the code negates is the word "not" of the same test
-pub not_same : (a b : Bool) → a ≡ b → not a ≡ not b
-not_same true b h = ap not h
-not_same false b h = ap not h
-
--- tests joined, as the rows join them
-pub ruleset joined_tests = (not_same)
 
 -- some rows, and then others, give what the first of the former gives; and where none of these applies, what the others
 -- give
