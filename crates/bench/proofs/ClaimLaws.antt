@@ -15,7 +15,7 @@ use Rattle.delivery.specs.Limits.{Limits}
 use Rattle.delivery.specs.Sets.{in_set}
 use Rattle.delivery.specs.Owed.{receivers}
 use Rattle.delivery.specs.declared.round.Phase.TheVariants.{Opening, Ballot}
-use Rattle.delivery.proofs.TestLaws.{decided}
+use Rattle.std.proofs.lemmas.Bool.{cases_Bool}
 use Rattle.delivery.proofs.RoundLaws.{identifier-within}
 use Rattle.delivery.proofs.GrowthLaws.{Grows, won-grows}
 use Rattle.delivery.proofs.AgreementLaws.{Won, won-opened, won-one}
@@ -107,7 +107,7 @@ module _ (L : Limits) where
         (λ (t : is_accepted (check_of L c e) ≡ false).
         let q = step-refused L c e t in
         subst⁻¹ (Sure L S (H then entry_for L c e)) q.0 (sure-refused S H c (entry_for L c e) q.1 y))
-        (decided (is_accepted (check_of L c e)))
+        (cases_Bool (is_accepted (check_of L c e)))
 
     -- and any list of them
     pub sure-after : (es : List Event) (H : History) (c : Bench) → Sure L S H c

@@ -8,7 +8,7 @@ use Rattle.std.specs.Prelude.{if◌then◌else◌, Option, None, Some, ◌==◌}
 use Rattle.std.proofs.lemmas.Bool.Decides.{nat_tests}
 use Rattle.signer.specs.Signer.{sign}
 use Rattle.signer.specs.declared.signer.Signer.{Signer}
-use Rattle.signer.proofs.ConditionalLaws.{if-elim}
+use Rattle.std.proofs.lemmas.Bool.{cond_both}
 use Rattle.signer.proofs.FromOneLaws.{nth-set-same, nth-set-other, length-set_nth, within_low}
 use Rattle.delivery.specs.Limits.{Limits}
 use Rattle.delivery.specs.Owed.{after_signing, after_delivery}
@@ -49,7 +49,7 @@ module _ (L : Limits) (c : Bench) (e : Event) where
 
   pub each-board : (P : Board → Type 0) → P b → ((x : Call) → P (called L c.n e.a b x)) → P board_then
   unfolding board_then
-  each-board P p q = if-elim P (e.kind == signing) _ _ (λ t. p) (λ t. q (call_of e))
+  each-board P p q = cond_both (e.kind == signing) _ _ P (λ t. p) (λ t. q (call_of e))
 
   -- what its signer is asked to sign, and the signer then
   unfoldable pub said_then : Option Statement

@@ -13,7 +13,7 @@ use Rattle.signer.proofs.SignerLaws.{WellFormed}
 use Rattle.delivery.specs.Limits.{Limits}
 use Rattle.delivery.specs.Bus.{is_board}
 use Rattle.delivery.specs.Sets.{in_set, bits}
-use Rattle.delivery.proofs.TestLaws.{decided}
+use Rattle.std.proofs.lemmas.Bool.{cases_Bool}
 use Rattle.delivery.proofs.OwedLaws.{Whole}
 use Rattle.vote.specs.Boards.{fresh_board}
 use Rattle.vote.proofs.ProperLaws.{Proper}
@@ -28,7 +28,7 @@ use Rattle.bench.proofs.SpreadLaws.{Spread}
 
 -- two numbers are the same or not
 pub same_or_not : (j k : ℕ) → (j ≡ k) ⊎ (j ≡ k → ⊥)
-same_or_not j k = ⊎_elim (λ t. inl (eqb-true j k t)) (λ f. inr (eqb-false j k f)) (decided (j == k))
+same_or_not j k = ⊎_elim (λ t. inl (eqb-true j k t)) (λ f. inr (eqb-false j k f)) (cases_Bool (j == k))
 
 -- the limits have room, and the boards of a bus are within them
 pub record Ground (L : Limits) (S : Setup) : Type 0 where

@@ -6,7 +6,7 @@ use mathlib.Core.Bool.{true, false}
 use mathlib.Core.List.{List, [], ◌∷◌}
 use mathlib.Core.Logic.{◌⊎◌, inl, inr, ⊎_elim, ◌↔◌}
 use borrow.Author.Tests.{eq-eqb, leb-true, leb-false}
-use Rattle.delivery.proofs.TestLaws.{decided}
+use Rattle.std.proofs.lemmas.Bool.{cases_Bool}
 use Rattle.std.specs.Prelude.{Result, Ok, Err, ◌==◌}
 use Rattle.std.proofs.lemmas.Bool.Decides.{nat_tests}
 use Rattle.std.proofs.lemmas.List.{get_or-take}
@@ -42,7 +42,7 @@ module _ (n : ℕ) (marks : List ℕ) where
       ⊎_elim
       (λ t. inl (t, λ k l u. leb-true _ 1 (every-reads n _ t k l u)))
       (λ f. inr (f, let x = every-fails n (is_mark_at marks) f in (x.0, x.1, x.2, leb-false _ 1 x.3)))
-      (decided (every_in n (is_mark_at marks)))
+      (cases_Bool (every_in n (is_mark_at marks)))
 
   abbrev answer : Result (Unit {0}) SetupFault
   answer = fresh_answer limits n marks

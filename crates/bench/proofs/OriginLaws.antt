@@ -15,7 +15,7 @@ use Rattle.delivery.specs.Acceptance.{accepts_opening}
 use Rattle.delivery.specs.Sets.{in_set}
 use Rattle.delivery.specs.Rounds.{is_round, coordinator, identifier_of}
 use Rattle.delivery.specs.declared.round.Phase.TheVariants.{Opening}
-use Rattle.delivery.proofs.TestLaws.{decided}
+use Rattle.std.proofs.lemmas.Bool.{cases_Bool}
 use Rattle.delivery.proofs.RoundLaws.{coordinator-in, identifier-none, openings-apart}
 use Rattle.delivery.proofs.DeliveredLaws.{heard-outside}
 use Rattle.delivery.proofs.AllRoundsLaws.{opening-reads}
@@ -72,7 +72,7 @@ module _ {L : Limits} {S : Setup} {H : History} {c : Bench} (g : Ground L S) (f 
     (y : Tells L S H (view L c)) (o : Rooted L S H (view L c)) where
   pub opened-origin : (k r v : ℕ) → heard_by L c k (coordinator S.n r) (identifier_of L Opening r) ≡ entry_of v
       → Origin L S H v
-  opened-origin k r v e = go (decided (is_round L r)) (decided (in_set S.sound p))
+  opened-origin k r v e = go (cases_Bool (is_round L r)) (cases_Bool (in_set S.sound p))
     where
       p : ℕ
       p = coordinator S.n r

@@ -7,13 +7,12 @@ use mathlib.Core.Bool.{Bool, true, false, true≢false}
 use mathlib.Core.List.{List}
 use Rattle.signer.specs.FromOne.{is_within, nth}
 use Rattle.std.specs.Prelude.{Result, Ok, Err, ◌==◌}
-use Rattle.signer.proofs.ConditionalLaws.{if-true}
 use Rattle.signer.proofs.FromOneLaws.{within_low, within-high, within_in, within-out}
 use Rattle.delivery.specs.Limits.{Limits, limits}
 use Rattle.delivery.specs.Bus.{is_board}
 use Rattle.delivery.specs.Counting.{every_in}
 use Rattle.delivery.specs.Sets.{in_set, set_of, with_board}
-use Rattle.delivery.proofs.TestLaws.{fails}
+use Rattle.std.proofs.lemmas.Bool.{cond-true, false_from_ne_true}
 use Rattle.delivery.proofs.CountLaws.{every-reads, reads-every}
 use Rattle.delivery.proofs.SetLaws.{in-set_of-outside, set-none, with-next}
 use Rattle.bench.specs.Setups.{is_mark, is_mark_at, is_marked_sound, Setup, alone, fresh_answer, setup_by, setup, fresh_bench, fresh_of}
@@ -72,13 +71,13 @@ marks-next i marks h g = reads-every (i + 1) _ (λ k l u. let r = every-reads i 
 pub marks-fail : (n i : ℕ) (marks : List ℕ) → i < n → is_mark (nth marks (i + 1) 0) ≡ false
     → every_in n (is_mark_at marks) ≡ false
 unfolding is_mark_at
-marks-fail n i marks l f = fails _ (λ h. true≢false (sym (every-reads n _ h (i + 1) (omega arith) (omega arith)) ∙ f))
+marks-fail n i marks l f = false_from_ne_true _ (λ h. true≢false (sym (every-reads n _ h (i + 1) (omega arith) (omega arith)) ∙ f))
 
 -- a bench is made for a number of boards that there can be, if the marks are marks
 pub board-made : (L : Limits) (n : ℕ) (marks : List ℕ) → is_board L n ≡ true
     → ((k : ℕ) → 1 ≤ k → k ≤ n → is_mark (nth marks k 0) ≡ true) → fresh_answer L n marks ≡ Ok tt
 unfolding fresh_answer is_mark_at
-board-made L n marks t m = if-true _ _ _ t ∙ if-true _ _ _ (reads-every n (is_mark_at marks) m)
+board-made L n marks t m = cond-true _ _ _ t ∙ cond-true _ _ _ (reads-every n (is_mark_at marks) m)
 
 -- the limits have room, and what the call asks for, or one sound board, is within them
 board-ground : (S : Setup) → is_board limits S.n ≡ true → ((k : ℕ) → in_set S.sound k ≡ true → is_within S.n k ≡ true)

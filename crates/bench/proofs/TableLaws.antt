@@ -1,11 +1,10 @@
--- Laws of the table: of the kinds that an event may be of, of tests joined, and of the first row that applies.
+-- Laws of the table: of the kinds that an event may be of, and of the first row that applies.
 -- Assumes nothing.
 use Prim.Native.Nat.{ℕ}
-use mathlib.Core.Path.{◌≡◌, ap}
-use mathlib.Core.Bool.{Bool, true, false, not}
+use mathlib.Core.Path.{◌≡◌}
+use mathlib.Core.Bool.{true, false}
 use native.Mathlib.Omega.{arith}
 use Rattle.std.proofs.lemmas.Bool.Decides.{nat_tests}
-use Rattle.delivery.proofs.TestLaws.{and-yes-left, and-no-left, and-no-right, or_left, or_right, or_no, or-no-left, or-no-right, neg-no, neg-in}
 use Rattle.signer.proofs.FromOneLaws.{within_low, within-high, within_in}
 use Rattle.bench.specs.Events.{turning, kind_number, kind_of}
 use Rattle.bench.specs.Table.{kind_row, start_row, end_row, first_of, state_rows}
@@ -19,14 +18,6 @@ use Rattle.std.specs.Prelude.{Ok, Err}
 use Rattle.bench.specs.declared.answer.Refusal.{Refusal}
 use Rattle.bench.specs.declared.answer.Refusal.TheVariants.{NoKind}
 use Rattle.delivery.specs.Limits.{Limits}
-
--- what the code negates is the word "not" of the same test
-pub not_same : (a b : Bool) → a ≡ b → not a ≡ not b
-not_same true b h = ap not h
-not_same false b h = ap not h
-
--- tests joined, as the rows join them
-pub ruleset joined_tests = (and-yes-left, and-no-left, and-no-right, or_left, or_right, or_no, or-no-left, or-no-right, neg-no, neg-in, not_same)
 
 -- a board whose turn no row before row 22 refuses is voting
 pub state-voting : (L : Limits) (c : Bench) (e : Event) (u : Unit {0}) → first_of (state_rows L c e) ≡ Ok u

@@ -114,7 +114,7 @@ impl Bench {
     }
 
     // What an event does that none of rows 10 to 21 applies to; row 22 refuses a turn.
-    #[tactic(auto, using(crate::proofs::TableLaws::joined_tests), unfolding(crate::specs::Effects::effect_of, crate::specs::Table::turn_row, crate::specs::Events::kind_number, crate::specs::Table::first_of))]
+    #[tactic(auto, unfolding(crate::specs::Effects::effect_of, crate::specs::Table::turn_row, crate::specs::Events::kind_number, crate::specs::Table::first_of))]
     fn effect(&mut self, e: &Known) -> Result<(), Refusal>
         requires { e.now.kind ≡ turning → IsVoting limits self.old e.now.a }
         ensures answer { result ≡ first_of (turn_rows limits self.old e.now) }

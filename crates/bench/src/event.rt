@@ -81,7 +81,7 @@ impl Kind {
     }
 
     // Whether it names a second board.
-    #[tactic(auto, using(crate::proofs::TableLaws::joined_tests), unfolding(crate::specs::Events::kind_number, crate::specs::Events::uses_other))]
+    #[tactic(auto, unfolding(crate::specs::Events::kind_number, crate::specs::Events::uses_other))]
     pub(crate) fn uses_other(self) -> bool
         ensures { result ≡ uses_other (kind_number self) }
     {
@@ -92,7 +92,7 @@ impl Kind {
     }
 
     // Whether it has an identifier or a round.
-    #[tactic(auto, using(crate::proofs::TableLaws::joined_tests), unfolding(crate::specs::Events::kind_number, crate::specs::Events::uses_id))]
+    #[tactic(auto, unfolding(crate::specs::Events::kind_number, crate::specs::Events::uses_id))]
     pub(crate) fn uses_id(self) -> bool
         ensures { result ≡ uses_id (kind_number self) }
     {
@@ -100,7 +100,7 @@ impl Kind {
     }
 
     // Whether it has a value.
-    #[tactic(auto, using(crate::proofs::TableLaws::joined_tests), unfolding(crate::specs::Events::kind_number, crate::specs::Events::uses_value, crate::specs::Events::uses_id))]
+    #[tactic(auto, unfolding(crate::specs::Events::kind_number, crate::specs::Events::uses_value, crate::specs::Events::uses_id))]
     pub(crate) fn uses_value(self) -> bool
         ensures { result ≡ uses_value (kind_number self) }
     {

@@ -26,7 +26,7 @@ fn refuse_if(applies: bool, refusal: Refusal) -> Result<(), Refusal>
 // What the table asks of the event alone. Row 10, that its kind is none, is told by `Event::known`.
 impl Known {
     // Row 12: b is not used, and not 0.
-    #[tactic(auto, using(crate::proofs::TableLaws::joined_tests), unfolding(crate::specs::Table::wrong_other))]
+    #[tactic(auto, unfolding(crate::specs::Table::wrong_other))]
     fn wrong_other(&self) -> bool
         ensures { result ≡ wrong_other self.now }
     {
@@ -34,7 +34,7 @@ impl Known {
     }
 
     // Row 12: the identifier or round is none, or it is not used, and not 0.
-    #[tactic(auto, using(crate::proofs::TableLaws::joined_tests), unfolding(crate::specs::Table::wrong_id, crate::specs::Events::uses_id, crate::specs::Events::kind_number))]
+    #[tactic(auto, unfolding(crate::specs::Table::wrong_id, crate::specs::Events::uses_id, crate::specs::Events::kind_number))]
     fn wrong_id(&self) -> bool
         ensures { result ≡ wrong_id limits self.now }
     {
@@ -46,7 +46,7 @@ impl Known {
     }
 
     // Row 12: the value is the blank, and no blank may stand there, or it is not used, and not 0.
-    #[tactic(auto, using(crate::proofs::TableLaws::joined_tests), unfolding(crate::specs::Table::wrong_value, crate::specs::Events::uses_value, crate::specs::Events::uses_id, crate::specs::Events::kind_number))]
+    #[tactic(auto, unfolding(crate::specs::Table::wrong_value, crate::specs::Events::uses_value, crate::specs::Events::uses_id, crate::specs::Events::kind_number))]
     fn wrong_value(&self) -> bool
         ensures { result ≡ wrong_value self.now }
     {
@@ -57,7 +57,7 @@ impl Known {
     }
 
     // Row 12: a field other than the boards is wrong.
-    #[tactic(auto, using(crate::proofs::TableLaws::joined_tests), unfolding(crate::specs::Table::fields_row))]
+    #[tactic(auto, unfolding(crate::specs::Table::fields_row))]
     fn fields_row(&self) -> bool
         ensures { result ≡ fields_row limits self.now }
     {
@@ -65,7 +65,7 @@ impl Known {
     }
 
     // Row 14: an announcement, suspicion or trust of a board about itself.
-    #[tactic(auto, using(crate::proofs::TableLaws::joined_tests), unfolding(crate::specs::Table::pair_row, crate::specs::Events::kind_number))]
+    #[tactic(auto, unfolding(crate::specs::Table::pair_row, crate::specs::Events::kind_number))]
     fn pair_row(&self) -> bool
         ensures { result ≡ pair_row self.now }
     {
@@ -74,7 +74,7 @@ impl Known {
 }
 
 // Whether a signer refuses what a board has to say.
-#[tactic(auto, using(crate::proofs::TableLaws::joined_tests), unfolding(crate::specs::Table::refuses))]
+#[tactic(auto, unfolding(crate::specs::Table::refuses))]
 fn refuses(signer: &Signer, said: Option<Statement>) -> bool
     ensures { result ≡ refuses limits signer.now said }
 {
@@ -84,7 +84,7 @@ fn refuses(signer: &Signer, said: Option<Statement>) -> bool
 // What it asks of the bench.
 impl Bench {
     // Row 11: a, or b where it is used, is no board of the bench.
-    #[tactic(auto, using(crate::proofs::TableLaws::joined_tests), unfolding(crate::specs::Table::boards_row))]
+    #[tactic(auto, unfolding(crate::specs::Table::boards_row))]
     fn boards_row(&self, e: &Known) -> bool
         ensures { result ≡ boards_row self.now e.now }
     {
@@ -92,7 +92,7 @@ impl Bench {
     }
 
     // Row 13: a sound board's signer is asked, or another event is for a faulty board.
-    #[tactic(auto, using(crate::proofs::TableLaws::joined_tests), unfolding(crate::specs::Table::mark_row, crate::specs::Events::kind_number))]
+    #[tactic(auto, unfolding(crate::specs::Table::mark_row, crate::specs::Events::kind_number))]
     fn mark_row(&self, e: &Known) -> bool
         ensures { result ≡ mark_row self.now e.now }
     {
@@ -104,7 +104,7 @@ impl Bench {
 
     // Row 15: a proposal to a board that has started, a turn of or an announcement to one that has not. Here and in row 16
     // there is an arm for each kind, so `matches!` would be no plainer.
-    #[tactic(auto, using(crate::proofs::TableLaws::joined_tests), unfolding(crate::specs::Table::start_row, crate::specs::Events::kind_number))]
+    #[tactic(auto, unfolding(crate::specs::Table::start_row, crate::specs::Events::kind_number))]
     fn start_row(&self, e: &Known) -> bool
         ensures { result ≡ start_row limits self.now e.now }
     {
@@ -116,7 +116,7 @@ impl Bench {
     }
 
     // Row 16: a turn of a board that is decided or spent, an announcement to one that is decided.
-    #[tactic(auto, using(crate::proofs::TableLaws::joined_tests), unfolding(crate::specs::Table::end_row, crate::specs::Events::kind_number))]
+    #[tactic(auto, unfolding(crate::specs::Table::end_row, crate::specs::Events::kind_number))]
     fn end_row(&self, e: &Known) -> bool
         ensures { result ≡ end_row limits self.now e.now }
     {
@@ -129,7 +129,7 @@ impl Bench {
 
     // Row 17: b has not signed what is to be delivered. Rows 17 to 21 are about one kind each, which is a premise beside the
     // others, so a `match` would be no plainer.
-    #[tactic(auto, using(crate::proofs::TableLaws::joined_tests), unfolding(crate::specs::Table::signed_row, crate::specs::Events::kind_number))]
+    #[tactic(auto, unfolding(crate::specs::Table::signed_row, crate::specs::Events::kind_number))]
     fn signed_row(&self, e: &Known) -> bool
         ensures { result ≡ signed_row limits self.now e.now }
     {
@@ -137,7 +137,7 @@ impl Bench {
     }
 
     // Row 18, named for the signer's `last`: a's signer has signed under this identifier or a higher one.
-    #[tactic(auto, using(crate::proofs::TableLaws::joined_tests), unfolding(crate::specs::Table::last_row, crate::specs::Events::kind_number))]
+    #[tactic(auto, unfolding(crate::specs::Table::last_row, crate::specs::Events::kind_number))]
     fn last_row(&self, e: &Known) -> bool
         ensures { result ≡ last_row limits self.now e.now }
     {
@@ -145,7 +145,7 @@ impl Bench {
     }
 
     // Row 19: a has delivered b's statement under this identifier.
-    #[tactic(auto, using(crate::proofs::TableLaws::joined_tests), unfolding(crate::specs::Table::delivered_row, crate::specs::Events::kind_number))]
+    #[tactic(auto, unfolding(crate::specs::Table::delivered_row, crate::specs::Events::kind_number))]
     fn delivered_row(&self, e: &Known) -> bool
         ensures { result ≡ delivered_row limits self.now e.now }
     {
@@ -153,7 +153,7 @@ impl Bench {
     }
 
     // Row 20: the announcer is sound, and has not decided so.
-    #[tactic(auto, using(crate::proofs::TableLaws::joined_tests), unfolding(crate::specs::Table::announcer_row, crate::specs::Events::kind_number))]
+    #[tactic(auto, unfolding(crate::specs::Table::announcer_row, crate::specs::Events::kind_number))]
     fn announcer_row(&self, e: &Known) -> bool
         ensures { result ≡ announcer_row limits self.now e.now }
     {
@@ -163,7 +163,7 @@ impl Bench {
     }
 
     // Row 21: a accepts too few ballots for what is announced.
-    #[tactic(auto, using(crate::proofs::TableLaws::joined_tests), unfolding(crate::specs::Table::ballots_row, crate::specs::Events::kind_number))]
+    #[tactic(auto, unfolding(crate::specs::Table::ballots_row, crate::specs::Events::kind_number))]
     fn ballots_row(&self, e: &Known) -> bool
         ensures { result ≡ ballots_row limits self.now e.now }
     {

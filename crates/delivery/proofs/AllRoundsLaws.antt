@@ -11,7 +11,6 @@ use Rattle.signer.specs.Log.{entry_of}
 use Rattle.delivery.specs.Limits.{Limits}
 use Rattle.delivery.specs.Delivered.{Store}
 use Rattle.delivery.specs.Acceptance.{says, opening_entry, ballot_entry, bears, opens, counts, counts_some, allowed_after, allowed, accepts_opening, accepts_ballot, accepts_some}
-use Rattle.delivery.proofs.TestLaws.{and-yes-left, and-no-left, or-no-left, or_left}
 
 module _ (L : Limits) (n : ℕ) (h : Store) where
   -- in round 1 every value is allowed, and in a later one what the one before leaves
@@ -90,6 +89,6 @@ module _ (L : Limits) (n : ℕ) (h : Store) (r : ℕ) where
   says-low x l = grind (arith, allowed-blank L n h r)
 
 -- for the functions
-pub ruleset accepts = (nat_tests, and-yes-left, and-no-left, or_left, or-no-left, allowed-blank)
+pub ruleset accepts = (nat_tests, allowed-blank)
 
 pub ruleset allows = (says-low)

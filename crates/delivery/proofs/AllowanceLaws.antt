@@ -17,7 +17,6 @@ use Rattle.delivery.specs.Acceptance.{says, opening_entry, bears, backs, allowed
 use Rattle.delivery.specs.Private.{lets}
 use Rattle.delivery.specs.declared.allowance.Allowance.{Allowance}
 use Rattle.delivery.specs.declared.allowance.Allowance.TheVariants.{Nothing, Every, Only}
-use Rattle.delivery.proofs.TestLaws.{and-yes-left, and-no-left}
 use Rattle.delivery.proofs.CountLaws.{overlap-pos, count-cong, count-or, find}
 use Rattle.delivery.proofs.AllRoundsLaws.{allowed-blank, ballot-needs}
 use Rattle.delivery.proofs.OneRoundLaws.{entry, blank, backing, opened-entry, some-either, value-among, backing-few, by-counts, counted, later-counts}
@@ -117,5 +116,3 @@ module _ (L : Limits) (n : ℕ) (h : Store) where
 
 -- for the functions
 pub ruleset allowance = (nothing_before, every-nobody, every_first, pass-turn)
-
-pub ruleset passing = (nat_tests, and-yes-left, and-no-left)

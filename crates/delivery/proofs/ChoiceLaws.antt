@@ -7,9 +7,9 @@ use mathlib.Core.List.{List, [], ◌∷◌}
 use mathlib.Core.Logic.{⊎_elim}
 use lib.ListN.{length}
 use Rattle.std.specs.Prelude.{if◌then◌else◌, ◌==◌, nat_le, ◌&&◌, ◌||◌, not}
+use Rattle.std.proofs.lemmas.Bool.{or_cases}
 use Rattle.std.proofs.lemmas.Bool.Decides.{nat_tests}
 use Rattle.delivery.specs.Counting.{plus, count_in, count_of, every_in, every_of, some_choice}
-use Rattle.delivery.proofs.TestLaws.{or_cases}
 
 -- those of 1 to n that pass, highest first
 pub picked : ℕ → (ℕ → Bool) → List ℕ

@@ -5,10 +5,10 @@ use mathlib.Core.Path.{◌≡◌, refl}
 use mathlib.Core.Bool.{Bool, true, false, true≢false}
 use mathlib.Core.Logic.{⊎_elim}
 use native.Mathlib.Omega.{arith}
+use Rattle.std.proofs.lemmas.Bool.{cases_Bool}
 use Rattle.std.proofs.lemmas.Bool.Decides.{nat_tests}
 use Rattle.delivery.specs.Counting.{plus, count_in, every_in}
 use Rattle.delivery.specs.Bus.{faults, quorum, overlap}
-use Rattle.delivery.proofs.TestLaws.{decided}
 
 -- a test that passes where another does counts as many or more, and tests that agree count the same
 pub count-mono : (n : ℕ) (p p' : ℕ → Bool)
@@ -52,7 +52,7 @@ every-fails (suc n) p h =
     ⊎_elim
     (λ (e : p (suc n) ≡ true). let x = every-fails n p (grind (arith, e, h)) in (x.0, x.1, omega (arith, x.2), x.3))
     (λ (e : p (suc n) ≡ false). (suc n, omega arith, omega arith, e))
-    (decided (p (suc n)))
+    (cases_Bool (p (suc n)))
 
 pub find : (n : ℕ) (p : ℕ → Bool) → 1 ≤ count_in n p → (k : ℕ) × (1 ≤ k) × (k ≤ n) × (p k ≡ true)
 unfolding count_in plus
@@ -61,7 +61,7 @@ find (suc n) p h =
     ⊎_elim
     (λ (e : p (suc n) ≡ true). (suc n, omega arith, omega arith, e))
     (λ (e : p (suc n) ≡ false). let x = find n p (grind (arith, e, h)) in (x.0, x.1, omega (arith, x.2), x.3))
-    (decided (p (suc n)))
+    (cases_Bool (p (suc n)))
 
 pub count-some : (n : ℕ) (p : ℕ → Bool) (k : ℕ) → 1 ≤ k → k ≤ n → p k ≡ true → 1 ≤ count_in n p
 unfolding count_in plus

@@ -6,6 +6,7 @@ use mathlib.Core.Bool.{Bool}
 use Rattle.signer.specs.FromOne.{is_within, nth, set_nth}
 use Rattle.delivery.specs.Counting.{plus, count_in}
 use Rattle.std.specs.Prelude.{if◌then◌else◌, nat_le}
+use Rattle.std.proofs.lemmas.Bool.{false_from_ne_true}
 use Rattle.std.proofs.lemmas.Bool.Decides.{nat_tests}
 use Rattle.delivery.specs.Bus.{quorum, overlap}
 use Rattle.delivery.specs.Limits.{limits}
@@ -19,7 +20,6 @@ use Rattle.delivery.specs.declared.allowance.Allowance.{Allowance}
 use Rattle.delivery.specs.declared.allowance.Allowance.TheVariants.{Nothing, Every, Only}
 use Rattle.delivery.specs.Examples.{nine-blank, blank-blank, nine-blank-blank, nine-alone, nine-nine-blank, unopened, LetterA, LetterB, LetterC, OtherSizes, Coordinators, Identifiers, NextRounds, Masks, Places, Copies, LetterE, LetterF, LetterG, LetterH, LetterI, LetterJ, LetterK}
 use Rattle.delivery.specs.declared.delivered.Delivered.{Delivered}
-use Rattle.delivery.proofs.TestLaws.{fails}
 use Rattle.delivery.proofs.AllRoundsLaws.{opening-reads, ballot-unopened}
 use Rattle.delivery.proofs.AllowanceLaws.{every_first, pass-turn}
 
@@ -137,6 +137,6 @@ letter-k v = (
   refl,
   λ s w z.
       let h = heard limits (unopened v) in
-      let none = fails (accepts_opening limits 4 h 1 w) (λ o. omega (arith, (opening-reads limits 4 h 1 w o).said)) in
+      let none = false_from_ne_true (accepts_opening limits 4 h 1 w) (λ o. omega (arith, (opening-reads limits 4 h 1 w o).said)) in
       ballot-unopened limits 4 h 1 s w z none,
 )

@@ -1,4 +1,3 @@
-pub mod TestLaws
 pub mod CountLaws
 pub mod RoundLaws
 pub mod SetLaws

@@ -9,6 +9,7 @@ use mathlib.Core.Logic.{◌⊎◌, inl, inr, ⊎_elim}
 use mathlib.Core.List.{List}
 use lib.ListN.{length}
 use Rattle.std.specs.Prelude.{if◌then◌else◌, ◌==◌, nat_le, ◌&&◌, ◌||◌, not}
+use Rattle.std.specs.Cmp.{both_ways}
 use Rattle.std.proofs.lemmas.Bool.Decides.{nat_tests}
 use Rattle.signer.specs.Log.{entry_of}
 use Rattle.delivery.specs.Counting.{count_in, count_of, every_of}
@@ -16,7 +17,6 @@ use Rattle.delivery.specs.Limits.{Limits}
 use Rattle.delivery.specs.Bus.{quorum, overlap}
 use Rattle.delivery.specs.Delivered.{Store}
 use Rattle.delivery.specs.Acceptance.{says, opening_entry, bears, backs, divided, opens, counts, counts_some, allowed_after, allowed, accepts_opening, accepts_ballot, accepts_some}
-use Rattle.delivery.proofs.TestLaws.{same_test}
 use Rattle.delivery.proofs.CountLaws.{count-le, count-cong, count-mono, count-or, find, every-reads, reads-every, overlap-pos}
 use Rattle.delivery.proofs.ChoiceLaws.{picked, picked-some, some-picked, length-picked, count-picked, every-picked, first, count-first, count-apart}
 use Rattle.delivery.proofs.AllRoundsLaws.{allowed-next, allowed-blank, accepted-reads, reads-accepted}
@@ -278,7 +278,7 @@ module _ (L : Limits) (n : ℕ) (h : Store) (r : ℕ) where
     -- so what is allowed next goes by them
     pub later-counts : 1 ≤ n → allowed L n h (r + 1) w ≡ counted w
     later-counts some =
-        same_test
+        both_ways
         _
         _
         (λ a. let y = later-reads w low a in leaves-counts w y.1.0 some y.0 (omega (arith, y.1.1)) y.1.2)

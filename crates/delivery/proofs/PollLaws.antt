@@ -5,6 +5,7 @@ use native.Mathlib.Omega.{arith}
 use mathlib.Core.Path.{◌≡◌, sym, ◌∙◌}
 use mathlib.Core.Bool.{true, false}
 use mathlib.Core.List.{List}
+use Rattle.std.proofs.lemmas.Bool.{false_from_ne_true}
 use Rattle.std.proofs.lemmas.Bool.Decides.{nat_tests}
 use Rattle.signer.specs.Log.{entry_of}
 use Rattle.delivery.specs.Limits.{Limits}
@@ -17,7 +18,6 @@ use Rattle.delivery.specs.declared.round.Phase.TheVariants.{Ballot}
 use Rattle.signer.proofs.FromOneLaws.{within-high}
 use Rattle.delivery.proofs.SetLaws.{union-sets, set-none, set-take, set-cong, set_beyond, set-fits}
 use Rattle.delivery.proofs.DeliveredLaws.{heard-nobody}
-use Rattle.delivery.proofs.TestLaws.{fails}
 use Rattle.delivery.proofs.AllRoundsLaws.{ballot-sent, ballot-unopened}
 use Rattle.delivery.proofs.OneRoundLaws.{backs-value}
 
@@ -25,7 +25,7 @@ module _ (L : Limits) (es : List ℕ) (r : ℕ) where
   -- a number that no board can have bears nothing
   silent : (s : ℕ) → L.boards < s → ballot_entry L (heard_in L es) r s ≡ 0
   silent s l =
-      let none = fails (is_board L s) (λ b. omega (arith, within-high L.boards s b)) in
+      let none = false_from_ne_true (is_board L s) (λ b. omega (arith, within-high L.boards s b)) in
       heard-nobody L es s (identifier_of L Ballot r) none
 
   -- a ballot backs the entry x, which is not 0, exactly if its entry is x

@@ -19,7 +19,7 @@ pub(crate) enum Allowance {
 
 impl Allowance {
     // Whether an entry is that of a value that is allowed.
-    #[tactic(auto, using(crate::proofs::AllowanceLaws::passing), unfolding(crate::specs::Acceptance::says, crate::specs::Private::lets))]
+    #[tactic(auto, unfolding(crate::specs::Acceptance::says, crate::specs::Private::lets))]
     pub(crate) fn allows(self, entry: u32) -> bool
         ensures { result ≡ says entry (lets self) }
     {

@@ -141,7 +141,7 @@ impl<'a> Poll<'a> {
     }
 
     // Whether a speaker's ballot of the round with a value is accepted.
-    #[tactic(auto, using(crate::proofs::AllRoundsLaws::accepts), unfolding(crate::specs::Acceptance::accepts_ballot, crate::specs::Acceptance::accepts_opening, crate::specs::Acceptance::counts, crate::specs::Acceptance::bears))]
+    #[tactic(auto, unfolding(crate::specs::Acceptance::accepts_ballot, crate::specs::Acceptance::accepts_opening, crate::specs::Acceptance::counts, crate::specs::Acceptance::bears))]
     pub fn accepts_ballot(&self, speaker: u8, value: u16) -> bool
         ensures { result ≡ accepts_ballot limits self.now.n (heard limits self.now.delivered) self.now.round speaker value }
     {

@@ -14,7 +14,7 @@ use Rattle.std.proofs.lemmas.List.Elements.{All-weaker}
 use Rattle.signer.proofs.FromOneLaws.{within_in, within-zero, within-above, within_low, within-high}
 use Rattle.delivery.specs.Limits.{limits}
 use Rattle.delivery.specs.Bus.{is_board}
-use Rattle.delivery.proofs.TestLaws.{decided}
+use Rattle.std.proofs.lemmas.Bool.{cases_Bool}
 use Rattle.bench.specs.Events.{high_first, event_bytes}
 use Rattle.bench.specs.Runs.{events_in}
 use Rattle.bench.specs.declared.event.Event.{Event}
@@ -176,7 +176,7 @@ pub record BusRead (bs : List ℕ) (b : Bus) : Type 0 where
 pub bus-taken : (bs : List ℕ) (b : Bus) → bus_of limits bs ≡ Ok b → BusRead bs b
 unfolding bus_from bus_due byte_due next
 bus-taken [] b e = absurd (grind (arith, e))
-bus-taken (n ∷ bs) b e = go (split n bs) (decided (is_board limits n)) e
+bus-taken (n ∷ bs) b e = go (split n bs) (cases_Bool (is_board limits n)) e
   where
     go : {cs : List ℕ} → Split n cs → (is_board limits n ≡ true) ⊎ (is_board limits n ≡ false) → bus_of limits (n ∷ cs) ≡ Ok b → BusRead (n ∷ cs) b
     go s (inr f) e = absurd (grind (arith, e, f))

@@ -15,7 +15,7 @@ use Rattle.std.proofs.lemmas.Fmt.{length-decimal-le}
 use Rattle.std.proofs.lemmas.List.{take_more}
 use lib.Seq.{sets, length-sets, sets-eq, take-append_seam}
 use Rattle.std.specs.Prelude.{Ok, Err}
-use Rattle.signer.proofs.ConditionalLaws.{if-true}
+use Rattle.std.proofs.lemmas.Bool.{cond-true}
 use Rattle.delivery.specs.Limits.{limits}
 use Rattle.bench.specs.declared.show.Shown.{Shown}
 use Rattle.bench.proofs.RunLaws.{sets-written}
@@ -137,7 +137,7 @@ buffer-short text buf h = grind (arith, nat_tests)
 
 pub buffer-written : {text buf buf' : List ℕ} {r : ℕ} → length text ≤ length buf → PutAt text buf 0 buf' r → buf' ≡ buffer_from text buf
 unfolding buffer_from
-buffer-written {text} {buf} h p = rw p.bytes (sets-written text buf h ∙ sym (if-true _ _ _ (le-leb (length text) (length buf) h)))
+buffer-written {text} {buf} h p = rw p.bytes (sets-written text buf h ∙ sym (cond-true _ _ _ (le-leb (length text) (length buf) h)))
 
 -- A report puts its text into an empty part of the buffer first, which tells its length and leaves the buffer as it was.
 module _ (buf : List ℕ) {text none : List ℕ} {r : ℕ} (p : PutAt text [] 0 none r) where
@@ -157,7 +157,7 @@ module _ (buf : List ℕ) {text none : List ℕ} {r : ℕ} (p : PutAt text [] 0 
   unfolding report_from
   report-written h q =
       let fits : length text ≤ length buf = rw (still, text-length) at h in
-      (rw text-length (sym (if-true _ _ _ (le-leb _ _ fits))), buffer-written fits (rw still at q))
+      (rw text-length (sym (cond-true _ _ _ (le-leb _ _ fits))), buffer-written fits (rw still at q))
 
 pub ruleset report_put = (report-short)
 

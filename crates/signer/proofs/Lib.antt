@@ -1,5 +1,4 @@
 pub mod FromOneLaws
-pub mod ConditionalLaws
 pub mod LogLaws
 pub mod SignerLaws
 pub mod HistoryLaws

@@ -7,8 +7,6 @@ use mathlib.Core.Bool.{true, false}
 use Rattle.std.proofs.lemmas.Bool.Decides.{nat_tests}
 use Rattle.delivery.specs.Limits.{Limits}
 use Rattle.delivery.specs.Delivered.{nothing_delivered, heard}
-use Rattle.signer.proofs.ConditionalLaws.{if-true, if-false}
-use Rattle.delivery.proofs.TestLaws.{and_in, and_right, and-no-left, and-no-right, neg-in, neg-no, or_left, or_right, or_no}
 use Rattle.delivery.proofs.AgreementLaws.{Won}
 use Rattle.vote.specs.Ballots.{tally}
 use Rattle.vote.specs.Boards.{fresh_position, fresh_board, is_started, is_decided, is_ended, has_decided, decision_of}
@@ -30,10 +28,6 @@ pub record Convinced (L : Limits) (n : ℕ) (b : Board) (r v : ℕ) : Type 0 whe
 pub reads-convinced : (L : Limits) (n : ℕ) (b : Board) (r v : ℕ) → Convinced L n b r v → convinced L n b r v ≡ true
 unfolding convinced is_decided tally
 reads-convinced L n b r v c = grind (arith, nat_tests)
-
--- what the program goes by where it tests
-pub ruleset tests =
-    (if-true, if-false, and_in, and_right, and-no-left, and-no-right, neg-in, neg-no, or_left, or_right, or_no)
 
 -- for the crates above: a fresh board
 pub fresh-is : (L : Limits)

@@ -5,6 +5,7 @@ use mathlib.Core.Path.{◌≡◌, ap, ◌∙◌}
 use mathlib.Core.Bool.{Bool, true, false}
 use mathlib.Core.Logic.{◌⊎◌}
 use Rattle.std.specs.Prelude.{if◌then◌else◌, min, ◌==◌, ◌||◌}
+use Rattle.std.proofs.lemmas.Bool.{false_from_ne_true}
 use Rattle.std.proofs.lemmas.Bool.Decides.{nat_tests}
 use Rattle.signer.proofs.FromOneLaws.{within-high}
 use Rattle.delivery.specs.Counting.{count_in}
@@ -16,7 +17,6 @@ use Rattle.delivery.specs.Delivered.{Store, heard}
 use Rattle.delivery.specs.Acceptance.{opening_entry, accepts_some}
 use Rattle.delivery.specs.declared.delivered.Delivered.{Delivered}
 use Rattle.delivery.specs.declared.round.Phase.TheVariants.{Ballot}
-use Rattle.delivery.proofs.TestLaws.{fails}
 use Rattle.delivery.proofs.AllRoundsLaws.{accepted-reads, ballot-reads}
 use Rattle.delivery.proofs.CountLaws.{count-cong, count-le, every-counted}
 use Rattle.delivery.proofs.DeliveredLaws.{heard-nobody}
@@ -45,11 +45,11 @@ module _ (L : Limits) (n : ℕ) (p : Position) (d : Delivered) (m : ℕ) where
 
   accepted-board : (s : ℕ) → L.boards < s → accepted s ≡ false
   accepted-board s l =
-      fails
+      false_from_ne_true
       (accepted s)
       (λ b.
       let a = accepted-reads L n (heard L d) p.round.0 s b in
-      let o = fails (is_board L s) (λ k. omega (arith, within-high L.boards s k)) in
+      let o = false_from_ne_true (is_board L s) (λ k. omega (arith, within-high L.boards s k)) in
       let x = heard-nobody L d.entries s (identifier_of L Ballot p.round.0) o in
       omega (arith, (ballot-reads L n (heard L d) p.round.0 s a.0 a.1).said, x))
 

@@ -73,7 +73,7 @@ impl Board {
     }
 
     // Whether this is what it decided.
-    #[tactic(auto, using(crate::proofs::BoardLaws::tests), unfolding(crate::specs::Boards::has_decided))]
+    #[tactic(auto, unfolding(crate::specs::Boards::has_decided))]
     pub fn has_decided(&self, decision: Decision) -> bool
         ensures { result ≡ has_decided self.now.status decision.round.0 decision.value }
     {
@@ -81,7 +81,7 @@ impl Board {
     }
 
     // Starts the vote with this value; nothing changes if it has started, or if the value is the blank.
-    #[tactic(auto, using(crate::proofs::BoardLaws::tests), unfolding(crate::specs::Boards::propose))]
+    #[tactic(auto, unfolding(crate::specs::Boards::propose))]
     pub fn propose(&mut self, value: u16)
         ensures { self.new ≡ propose self.old value }
     {
@@ -128,7 +128,7 @@ impl Board {
 
     // An announcement of another board's decision. The board decides the same if its own ballots bear it out; nothing
     // changes if not, or if it has not started or is decided already.
-    #[tactic(auto, using(crate::proofs::BoardLaws::tests), unfolding(crate::specs::Announcements::convinced, crate::specs::Announcements::announce, crate::specs::Boards::with_status))]
+    #[tactic(auto, unfolding(crate::specs::Announcements::convinced, crate::specs::Announcements::announce, crate::specs::Boards::with_status))]
     pub fn announce(&mut self, n: u8, decision: Decision)
         ensures { self.new ≡ announce limits n self.old decision.round.0 decision.value }
     {
