@@ -85,9 +85,6 @@ pub sizes-fit : (n : ℕ) → 1 ≤ n
 sizes-fit n h = omega arith
 
 -- two quorums have e more than all boards together, so they share e boards; e is 1 or more, and at most q
-pub quorums-meet : (n : ℕ) → n + overlap n ≤ quorum n + quorum n
-quorums-meet n = omega arith
-
 pub quorums-share : (n : ℕ) (p p' : ℕ → Bool)
     → quorum n ≤ count_in n p → quorum n ≤ count_in n p' → overlap n ≤ count_in n (λ (k : ℕ). p k && p' k)
 quorums-share n p p' h h' = omega (arith, shared n p p')

@@ -24,11 +24,6 @@ module _ (limit k : ℕ) where
   unfolding is_within
   within-high h = grind (arith, nat_tests)
 
-  -- from 1 on, only the limit is left to test
-  pub within-test : 1 ≤ k → is_within limit k ≡ nat_le k limit
-  unfolding is_within
-  within-test l = grind (arith, nat_tests)
-
   pub within_in : 1 ≤ k → k ≤ limit → is_within limit k ≡ true
   unfolding is_within
   within_in l h = grind (arith, nat_tests)
