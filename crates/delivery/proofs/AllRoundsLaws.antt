@@ -89,6 +89,6 @@ module _ (L : Limits) (n : ℕ) (h : Store) (r : ℕ) where
   says-low x l = grind (arith, allowed-blank L n h r)
 
 -- for the functions
-pub ruleset accepts = (nat_tests, allowed-blank)
+pub ruleset accepts = (allowed-blank)
 
 pub ruleset allows = (says-low)
