@@ -1,7 +1,7 @@
 -- The answer to an event is the lowest number that applies. Assumes nothing.
-use Prim.Native.Nat.{ℕ, suc, ◌≤◌, ◌<◌}
+use Prim.Native.Nat.{ℕ, suc, ◌+◌, ◌≤◌, ◌<◌}
 use native.Mathlib.Omega.{arith}
-use mathlib.Core.Path.{◌≡◌, refl, sym, subst}
+use mathlib.Core.Path.{◌≡◌, refl, sym, ap, subst, ◌∙◌}
 use mathlib.Core.Bool.{Bool, true, false}
 use mathlib.Core.List.{List, [], ◌∷◌}
 use mathlib.Core.Logic.{◌⊎◌, inl, inr, ◌↔◌}
@@ -9,6 +9,8 @@ use Rattle.std.proofs.lemmas.Bool.Decides.{nat_tests}
 use Rattle.signer.proofs.FromOneLaws.{within_low, within-high, within_in}
 use Rattle.delivery.specs.Limits.{limits}
 use Rattle.vote.proofs.BoardLaws.{is-idle, has-one, is-over, has-decided}
+use Rattle.vote.specs.Turns.{turn_number}
+use Rattle.vote.specs.declared.turn.Refusal.TheVariants.{Ended}
 use Rattle.vote.proofs.TurnLaws.{turn-refused, not_started-is, ended-is, waiting-is}
 use Rattle.vote.specs.declared.board.Status.TheVariants.{Voting}
 use Rattle.bench.specs.Events.{uses_other, uses_id, uses_value}
@@ -50,6 +52,9 @@ must-vote : (c : Bench) (k : ℕ) → must_wait limits c k ≡ true → (board_a
 unfolding must_wait is_waiting refuses
 must-vote c k = let t = turn-refused limits c.n k (board_at limits c k) in grind arith
 
+row_16-is : turn_number Ended ≡ 16
+row_16-is = ended-is ∙ ap (λ (m : ℕ). m + 1) not_started-is
+
 -- what is known of a row's tests
 ruleset fields = (arith, nat_tests, within_in, within_low, within-high)
 
@@ -67,7 +72,7 @@ module _ (c : Bench) (e : Event) where
       next (refl, grind (tests, sound-asked, faulty-told), grind tests)
       next (refl, grind (tests, of-itself), grind tests)
       next (not_started-is, grind (tests, started, not-started), grind tests)
-      next (ended-is, grind (tests, ended, is-decided), grind tests)
+      next (row_16-is, grind (tests, ended, is-decided), grind tests)
       next (refl, grind (tests, not-signed), grind tests)
       next (refl, grind (tests, not-above), grind tests)
       next (refl, grind (tests, delivered), grind tests)
@@ -99,6 +104,6 @@ answering =
       accepted = accepted-none;
       first = first-number;
       numbers = λ c e i.
-          10 ∷ 11 ∷ 12 ∷ 13 ∷ 14 ∷ not_started-is i ∷ ended-is i ∷ 17 ∷ 18 ∷ 19 ∷ 20 ∷ 21 ∷ waiting-is i ∷ [];
+          10 ∷ 11 ∷ 12 ∷ 13 ∷ 14 ∷ not_started-is i ∷ row_16-is i ∷ 17 ∷ 18 ∷ 19 ∷ 20 ∷ 21 ∷ waiting-is i ∷ [];
       refused = refused-same limits;
     }

@@ -1,5 +1,5 @@
 -- Laws of a turn. Assumes nothing.
-use Prim.Native.Nat.{ℕ, ◌≤◌}
+use Prim.Native.Nat.{ℕ, ◌+◌, ◌≤◌}
 use native.Mathlib.Omega.{arith}
 use mathlib.Core.Path.{◌≡◌, refl}
 use mathlib.Core.Bool.{true}
@@ -34,7 +34,7 @@ pub not_started-is : turn_number NotStarted ≡ 15
 unfolding turn_number
 not_started-is = refl
 
-pub ended-is : turn_number Ended ≡ 16
+pub ended-is : turn_number Ended ≡ turn_number NotStarted + 1
 unfolding turn_number
 ended-is = refl
 
