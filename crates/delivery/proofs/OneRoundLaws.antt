@@ -21,13 +21,6 @@ use Rattle.delivery.proofs.CountLaws.{count-le, count-cong, count-mono, count-or
 use Rattle.delivery.proofs.ChoiceLaws.{picked, picked-some, some-picked, length-picked, count-picked, every-picked, first, count-first, count-apart}
 use Rattle.delivery.proofs.AllRoundsLaws.{allowed-next, allowed-blank, accepted-reads, reads-accepted}
 
--- "not 0" as a test
-pub some-value : (w : ℕ) → not (w == 0) ≡ true → w ≡ 0 → ⊥
-some-value w h = grind (arith, nat_tests)
-
-pub value-some : (w : ℕ) → (w ≡ 0 → ⊥) → not (w == 0) ≡ true
-value-some w h = grind (arith, nat_tests)
-
 -- a ballot backs the entry of w exactly if it bears w
 pub backs-value : (L : Limits) (h : Store) (r w s : ℕ) → backs L h r (entry_of w) s ≡ bears L h r w s
 unfolding backs says
