@@ -4,7 +4,7 @@ use Prim.Native.Nat.{ℕ, ◌+◌, ◌-◌, ◌<◌}
 use mathlib.Core.Path.{◌≡◌, ap, ◌∙◌}
 use lib.ListN.{length, get_or}
 use native.Mathlib.Omega.{arith}
-use Rattle.signer.proofs.FromOneLaws.{nth-any, nth-none, set_nth-index, set_nth-none, within_low, within-high, within-out, nth-replicate}
+use Rattle.signer.proofs.FromOneLaws.{nth-any, set_nth-index, set_nth-none, within_low, within-high, within-out, nth-replicate}
 use Rattle.signer.specs.Signer.{fresh_signer}
 use Rattle.delivery.specs.Limits.{Limits}
 use Rattle.delivery.specs.Delivered.{heard}

@@ -7,7 +7,7 @@ use mathlib.Core.Logic.{◌⊎◌}
 use native.Mathlib.Omega.{arith}
 use lib.ListN.{length, get_or, set, replicate, length-set, length-replicate}
 use lib.Seq.{get_or-set_other, set_out}
-use Rattle.std.specs.Prelude.{None, Some, unwrap_or, nat_le}
+use Rattle.std.specs.Prelude.{None, Some, unwrap_or}
 use Rattle.std.proofs.lemmas.Bool.Decides.{nat_tests}
 use Rattle.std.proofs.lemmas.Grind.{get_or-set_at}
 use Rattle.std.proofs.lemmas.List.{get_or_default, get_or_past, get_or-replicate}

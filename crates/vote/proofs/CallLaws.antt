@@ -3,16 +3,16 @@ use Prim.Native.Nat.{ℕ}
 use native.Mathlib.Omega.{arith}
 use mathlib.Core.Path.{◌≡◌}
 use mathlib.Core.Bool.{true, false}
-use Rattle.std.specs.Prelude.{Option, None, Some, Ok, IfSome, if◌then◌else◌, ◌==◌, ◌&&◌}
+use Rattle.std.specs.Prelude.{None, Some, Ok, IfSome, if◌then◌else◌, ◌==◌, ◌&&◌}
 use Rattle.std.proofs.lemmas.Bool.Decides.{nat_tests}
 use Rattle.signer.specs.Log.{is_identifier, entry_of}
 use Rattle.delivery.specs.Limits.{Limits}
 use Rattle.delivery.specs.Bus.{is_board}
 use Rattle.delivery.specs.Sets.{with_board, without_board}
-use Rattle.delivery.specs.Delivered.{Store, heard}
+use Rattle.delivery.specs.Delivered.{heard}
 use Rattle.delivery.specs.declared.delivered.Delivered.{Delivered}
 use Rattle.delivery.proofs.DeliveredLaws.{Whole, deliver-same, deliver-other}
-use Rattle.vote.specs.Boards.{is_started, decision_of, with_status, starting_with, propose, hears, deliver_to, with_suspected, suspecting, suspect, trust}
+use Rattle.vote.specs.Boards.{is_started, decision_of, with_status, starting_with, propose, hears, deliver_to, suspecting, suspect, trust}
 use Rattle.vote.specs.Announcements.{announce}
 use Rattle.vote.specs.Rule.{rule}
 use Rattle.vote.specs.Turns.{position_after, status_after, said_in, hears_own, answer_to, turn_in, turn}
