@@ -1,4 +1,4 @@
--- What an accepted event is, as its view shows it. Assumes nothing.
+-- What an accepted event is: the rows that it passed, and what these say of it and of the bench. Assumes nothing.
 use Prim.Native.Nat.{◌≤◌}
 use native.Mathlib.Omega.{arith}
 use mathlib.Core.Path.{◌≡◌}

@@ -5,6 +5,8 @@ use mathlib.Core.Path.{◌≡◌, refl, sym, ap, subst, ◌∙◌}
 use mathlib.Core.Bool.{Bool, true, false}
 use mathlib.Core.List.{List, [], ◌∷◌}
 use mathlib.Core.Logic.{◌⊎◌, inl, inr, ◌↔◌}
+use Rattle.std.specs.Prelude.{◌==◌}
+use Rattle.std.proofs.lemmas.Bool.{cases_Bool}
 use Rattle.std.proofs.lemmas.Bool.Decides.{nat_tests}
 use Rattle.signer.proofs.FromOneLaws.{within_low, within-high, within_in}
 use Rattle.delivery.specs.Limits.{limits}
@@ -24,7 +26,6 @@ use Rattle.bench.specs.declared.event.Event.{Event}
 use Rattle.bench.specs.declared.answer.Refusal.{Refusal}
 use Rattle.bench.proofs.TurnLaws.{wait-waits, wait-refuses, wait-neither}
 use Rattle.bench.proofs.AnswerLaws.{refused-same}
-use Rattle.bench.proofs.FitLaws.{same_or_not}
 
 -- rows whose numbers rise by one from m, and each of which applies where its number does in A; none does from there on
 data Says (A : ℕ → Type 0) : ℕ → List (Bool × Refusal) → Type 0 where
@@ -38,6 +39,10 @@ abbrev Lowest : (ℕ → Type 0) → ℕ → ℕ → Type 0
 Lowest A m n =
     ((n ≡ 0) × ((k : ℕ) → m ≤ k → A k → ⊥))
     ⊎ ((m ≤ n) × A n × ((k : ℕ) → m ≤ k → k < n → A k → ⊥))
+
+-- two numbers are the same or not
+same_or_not : (j k : ℕ) → (j ≡ k) ⊎ (j ≡ k → ⊥)
+same_or_not j k = grind (arith, nat_tests, cases_Bool (j == k))
 
 -- so the number of the first of them that applies is the lowest that does
 lowest : (A : ℕ → Type 0) (m : ℕ) (rows : List (Bool × Refusal)) → Says A m rows

@@ -1,4 +1,4 @@
--- Laws of a bench's boards and signers, each read back after a change. Assumes nothing.
+-- A bench's boards and signers: the place of each, who has delivered a statement, and fresh ones. Assumes nothing.
 use Rattle.std.specs.Prelude.{◌==◌, not}
 use Prim.Native.Nat.{ℕ, ◌+◌, ◌-◌, ◌<◌}
 use mathlib.Core.Path.{◌≡◌, ap, ◌∙◌}

@@ -1,11 +1,8 @@
 -- What holds of every bench that was played from a fresh one, as far as it can be said of the bench alone. Assumes nothing.
-use Rattle.std.specs.Prelude.{◌==◌}
 use Prim.Native.Nat.{ℕ, ◌≤◌, ◌-◌, ◌*◌}
 use native.Mathlib.Omega.{arith}
 use mathlib.Core.Path.{◌≡◌}
 use mathlib.Core.Bool.{true, false}
-use mathlib.Core.Logic.{◌⊎◌, inl, inr, ⊎_elim}
-use borrow.Author.Tests.{eqb-true, eqb-false}
 use lib.ListN.{length}
 use Rattle.signer.specs.FromOne.{is_within}
 use Rattle.signer.proofs.FromOneLaws.{within_low, within-high, within_in}
@@ -13,7 +10,6 @@ use Rattle.signer.proofs.SignerLaws.{WellFormed}
 use Rattle.delivery.specs.Limits.{Limits}
 use Rattle.delivery.specs.Bus.{is_board}
 use Rattle.delivery.specs.Sets.{in_set, bits}
-use Rattle.std.proofs.lemmas.Bool.{cases_Bool}
 use Rattle.delivery.proofs.OwedLaws.{Whole}
 use Rattle.vote.specs.Boards.{fresh_board}
 use Rattle.vote.proofs.ProperLaws.{Proper}
@@ -25,10 +21,6 @@ use Rattle.bench.specs.declared.bench.Bench.{Bench}
 use Rattle.bench.proofs.ViewLaws.{view}
 use Rattle.bench.proofs.ReplayLaws.{Sane}
 use Rattle.bench.proofs.SpreadLaws.{Spread}
-
--- two numbers are the same or not
-pub same_or_not : (j k : ℕ) → (j ≡ k) ⊎ (j ≡ k → ⊥)
-same_or_not j k = ⊎_elim (λ t. inl (eqb-true j k t)) (λ f. inr (eqb-false j k f)) (cases_Bool (j == k))
 
 -- the limits have room, and the boards of a bus are within them
 pub record Ground (L : Limits) (S : Setup) : Type 0 where

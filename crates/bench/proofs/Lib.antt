@@ -1,3 +1,4 @@
+-- First what the calls' own proofs go by (TableLaws to ExampleLaws).
 -- That every list of events is as claimed goes so, from the bottom up. What a history says it says entry by entry
 -- (MomentLaws, HistoryLaws, OwedLaws). A bench has a view: where each board stands, how far it is, and what is signed
 -- (ViewLaws). An accepted event is replayed on a view, and what it adds to the history is what is new there
@@ -5,8 +6,8 @@
 -- effect, which is read back (EffectLaws); and the view of the effect is the replay of the view (SquareLaws). What else
 -- holds of a bench that was played (FitLaws, of owed copies SpreadLaws) stays so (InvariantLaws), and values still come
 -- from where they may (OriginLaws). So each list keeps all this, which gives the claim (ClaimLaws); it begins with a
--- fresh bench (SetupLaws, OutsetLaws). Demands has what src/claims promises. Then that the table's two texts say the same
--- (AppliesLaws), and those of the call for a fresh bench (MakingLaws).
+-- fresh bench (SetupLaws, OutsetLaws). Demands has what src/claims promises. Then that the table's two texts say the
+-- same (AppliesLaws), and those of the call for a fresh bench (MakingLaws).
 pub mod TableLaws
 pub mod TurnLaws
 pub mod BenchLaws

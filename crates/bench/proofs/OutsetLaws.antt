@@ -1,4 +1,5 @@
--- Before the first event: the fresh bench shows nothing, which is what the empty history tells. Assumes nothing.
+-- Before the first event: the fresh bench shows nothing, which is what the empty history tells, and it is fit. Assumes
+-- nothing.
 use Prim.Native.Nat.{ℕ}
 use native.Mathlib.Omega.{arith}
 use mathlib.Core.Path.{◌≡◌, refl, sym, ap, ◌∙◌, fun_ext}

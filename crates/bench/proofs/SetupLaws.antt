@@ -1,4 +1,5 @@
--- What the call for a fresh bench gives is within the limits, and a fresh bench is fit. Assumes nothing.
+-- The call for a fresh bench: marks one by one, marks that read alike, and that what it gives is within the limits. Assumes
+-- nothing.
 use Prim.Native.Nat.{ℕ, ◌+◌, ◌≤◌, ◌<◌}
 use native.Mathlib.Omega.{arith}
 use mathlib.Core.Path.{◌≡◌, refl, sym, ap, ◌∙◌, fun_ext}

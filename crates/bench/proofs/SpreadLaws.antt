@@ -34,14 +34,14 @@ Spread L sound o h = (k s i : ℕ) → (in_set (receivers L o s i) k ≡ true) �
 
 -- Sound board a hears what s said under i, which is new to it, and nothing else is heard: h' are the entries then, and
 -- `have` are the boards that had heard it.
-pub record Heard (sound a s i have : ℕ) (h h' : ℕ → Store) : Type 0 where
+pub record HearsNew (sound a s i have : ℕ) (h h' : ℕ → Store) : Type 0 where
   pub a-sound : in_set sound a ≡ true
   pub range : (k : ℕ) → in_set sound k ≡ true → (1 ≤ k) × (k ≤ bits) × (in_set have k ≡ not (h k s i == 0))
   pub only : (k s' i' : ℕ) → (h' k s' i' ≡ h k s' i') ⊎ ((k ≡ a) × (s' ≡ s) × (i' ≡ i))
   pub new : h' a s i ≡ 0 → ⊥
 
 module _ {L : Limits} {o : Owed} {sound a s i have : ℕ} {h h' : ℕ → Store} (w : Whole L o) (b : is_board L s ≡ true)
-    (d : is_identifier L.identifiers i ≡ true) (n : Heard sound a s i have h h') (old : Spread L sound o h) where
+    (d : is_identifier L.identifiers i ≡ true) (n : HearsNew sound a s i have h h') (old : Spread L sound o h) where
   -- who lacks the statement then has lacked it, and is not a
   abbrev Lacked : ℕ → Type 0
   Lacked k = (in_set sound k ≡ true) × (k ≡ s → ⊥) × (h k s i ≡ 0)
@@ -50,8 +50,8 @@ module _ {L : Limits} {o : Owed} {sound a s i have : ℕ} {h h' : ℕ → Store}
   lacking-lacked k = (
     λ l.
         let z = n.only k s i in
-        let not : k ≡ a → ⊥ = λ (m : k ≡ a). n.new (subst (λ (j : ℕ). h' j s i ≡ 0) m l.not-heard) in
-        (not, (l.is-sound, l.other, grind (arith, z, not, l.not-heard))),
+        let apart : k ≡ a → ⊥ = λ (m : k ≡ a). n.new (subst (λ (j : ℕ). h' j s i ≡ 0) m l.not-heard) in
+        (apart, (l.is-sound, l.other, grind (arith, z, apart, l.not-heard))),
     λ l.
         record {
           is-sound = l.1.0;

@@ -44,7 +44,7 @@ events_in (suc k) bs = event_from bs ∷ events_in k (drop event_bytes bs)
 -- a list of bytes is played if they are whole events and there is room for the answers
 unfoldable pub ending_of : ℕ → ℕ → Result (Unit {0}) Unplayed
 ending_of bytes room =
-    if (bytes % event_bytes) == 0 then (if nat_le (bytes / event_bytes) room then Ok tt else Err Short) else Err Ragged
+    if bytes % event_bytes == 0 then (if nat_le (bytes / event_bytes) room then Ok tt else Err Short) else Err Ragged
 
 -- the events that are played
 unfoldable pub played_by : Result (Unit {0}) Unplayed → List ℕ → List Event

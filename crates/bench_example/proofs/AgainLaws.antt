@@ -6,6 +6,7 @@ use Rattle.bench.specs.Runs.{after}
 use Rattle.bench.specs.declared.bench.Bench.{Bench}
 use Rattle.bench.specs.declared.event.Event.{Event}
 use Rattle.bench.proofs.RunLaws.{after-nil, after-cons}
+use Rattle.bench.proofs.SetupLaws.{fresh-bench}
 
 -- the first of the times that are left
 pub one-more : (L : Limits) (c : Bench) (e : Event) (n k : ℕ) → k < n
@@ -19,3 +20,6 @@ pub none-left : (L : Limits) (c : Bench) (e : Event) (n k : ℕ) → n ≤ k →
 none-left L c e n k h =
     let left : n - k ≡ 0 = omega (arith, h) in
     ap (λ (m : ℕ). after L c (replicate m e)) left ∙ after-nil L c
+
+-- what the proof of `answer_after` goes by
+pub ruleset played_again = (after-cons, fresh-bench, one-more, none-left)

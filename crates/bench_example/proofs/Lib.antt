@@ -1,2 +1,1 @@
 mod AgainLaws
-mod Rules

@@ -408,7 +408,7 @@ fn not_played(rt: &HostRuntime) -> io::Result<()> {
 
 // What an event is answered on a fresh bench, after another one and after itself so many times; n and the marks stay apart,
 // as for the call that makes the bench.
-#[tactic(auto, using(crate::proofs::Rules::rules_answer_after))]
+#[tactic(auto, using(crate::proofs::AgainLaws::played_again))]
 fn answer_after(n: u8, marks: Marks, first: Event, again: Event, times: u8) -> Result<(), Refusal>
     ensures { result ≡ (step_of limits (after limits (fresh_bench limits n marks) (first ∷ replicate times again)) again).answer }
 {

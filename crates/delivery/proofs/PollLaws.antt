@@ -65,4 +65,4 @@ module _ (L : Limits) (es : List ℕ) (r n : ℕ) where
 -- for the functions
 pub ruleset bearing = (set-none, bearing-found, backs-test, set-take)
 
-pub ruleset backing = (set-none, backs-value, ballot-sent, ballot-unopened)
+pub ruleset backers = (set-none, backs-value, ballot-sent, ballot-unopened)

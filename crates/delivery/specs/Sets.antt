@@ -5,7 +5,7 @@ use Rattle.std.specs.Prelude.{if◌then◌else◌}
 -- board k is in the set m if bit k - 1 of m is 1
 unfoldable pub in_set : ℕ → ℕ → Bool
 in_set m zero = false
-in_set m (suc k) = (m / 2 ^ k % 2) == 1
+in_set m (suc k) = m / 2 ^ k % 2 == 1
 
 -- the set of those of 1 to n that pass
 unfoldable pub set_of : ℕ → (ℕ → Bool) → ℕ

@@ -1,4 +1,4 @@
-ghost use Rattle.std.specs.Prelude.{ℕ, ◌+◌, ◌-◌, min, ◌≡◌, leb};
+ghost use Rattle.std.specs.Prelude.{ℕ, ◌+◌, ◌-◌, min, ◌≡◌, nat_le};
 ghost use Rattle.std.specs.Prelude.{if◌then◌else◌};
 ghost use Rattle.delivery.specs.Bus.{quorum, overlap};
 ghost use Rattle.delivery.specs.Acceptance.{says};
@@ -36,7 +36,7 @@ impl Allowance {
 
     // What is allowed after a round of n boards with so many blank ballots and so many for the opening's value.
     pub(crate) fn settled(self, n: u8, opening: u32, blank: u8, backing: u8) -> Allowance
-        ensures { result ≡ (if leb (quorum n) (blank + min backing (overlap n - 1)) then self else (if leb (quorum n) (blank + backing) then Only opening else Nothing)) }
+        ensures { result ≡ (if nat_le (quorum n) (blank + min backing (overlap n - 1)) then self else (if nat_le (quorum n) (blank + backing) then Only opening else Nothing)) }
     {
         let q = bus::quorum(n) as u16;
         let e = bus::overlap(n);

@@ -152,7 +152,7 @@ impl<'a> Poll<'a> {
     }
 
     // The boards of 1 to n whose accepted ballots of the round bear a value.
-    #[tactic(auto, using(crate::proofs::PollLaws::backing))]
+    #[tactic(auto, using(crate::proofs::PollLaws::backers))]
     pub fn ballots_for(&self, value: u16) -> BoardSet
         ensures { result ≡ set_of self.now.n (λ (s : ℕ). accepts_ballot limits self.now.n (heard limits self.now.delivered) self.now.round s value) }
     {

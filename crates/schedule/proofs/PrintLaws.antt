@@ -1,4 +1,4 @@
--- Laws of what is printed: texts put one after another, the digits of a number, and how long the lines are. Assumes nothing.
+-- Laws of what is printed: texts put one after another, and how long the lines are. Assumes nothing.
 use Prim.Native.Nat.{ℕ, zero, suc, ◌+◌, ◌*◌, ◌≤◌, ◌<◌}
 use native.Mathlib.Nat.{zero-add, add-zero}
 use native.Mathlib.Numerals.{add-one}

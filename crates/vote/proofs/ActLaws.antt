@@ -1,5 +1,5 @@
--- A turn and what is said of it in words say the same. This goes by no law of the rule or of a turn, which would only
--- say their definitions again. Assumes nothing.
+-- A turn and what is said of it in words say the same. This goes by no law of the rule or of a turn, which
+-- another text of it might break, right or wrong. Assumes nothing.
 use Rattle.std.specs.Prelude.{◌||◌}
 use Prim.Native.Nat.{ℕ, ◌≤◌}
 use native.Mathlib.Omega.{arith}

@@ -42,16 +42,15 @@ module _ (L : Limits) (n me : ℕ) (b : Board) where
 
   -- what a call that is taken leaves
   abbrev pub left : Call → Board
-  left (proposal v) = record { position = starting_with b.position v; delivered = b.delivered; status = Voting }
+  left (proposal v) = record b { position = starting_with b.position v; status = Voting }
   left own_turn =
       record {
         position = position_after L move b.position;
         delivered = hears_own L b.delivered (said_in L me b.position.round.0 move);
         status = status_after b.position.round.0 move;
       }
-  left (delivery s) = record { position = b.position; delivered = hears L b.delivered s; status = b.status }
-  left (announcement r v) =
-      record { position = b.position; delivered = b.delivered; status = Decided (decision_of r v) }
+  left (delivery s) = record b { delivered = hears L b.delivered s }
+  left (announcement r v) = record b { status = Decided (decision_of r v) }
   left (suspicion k) = suspecting b (with_board b.position.suspected k)
   left (restored-trust k) = suspecting b (without_board b.position.suspected k)
 

@@ -34,6 +34,7 @@ pub not_started-is : turn_number NotStarted ≡ 15
 unfolding turn_number
 not_started-is = refl
 
+-- by the one before it: 16 is also the width of a set, which no proof writes
 pub ended-is : turn_number Ended ≡ turn_number NotStarted + 1
 unfolding turn_number
 ended-is = refl

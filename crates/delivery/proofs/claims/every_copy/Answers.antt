@@ -10,6 +10,7 @@ use Rattle.delivery.proofs.SetLaws.{in-none, in-set_of-within}
 use Rattle.delivery.proofs.GrowthLaws.{deliver-grows}
 use Rattle.delivery.proofs.DeliveredLaws as delivered
 use Rattle.delivery.proofs.OwedLaws as owed
+use Rattle.delivery.proofs.EchoLaws as echo
 use Rattle.delivery.proofs.claims.every_copy.Goals as goal
 
 -- the form of a record of owed copies, and the laws' word for it
@@ -20,7 +21,6 @@ sets : (o : Owed) → owed.Whole limits o → HasSets o
 sets o w = record { speakers = w.size; identifiers = w.each }
 
 pub returns : goal.returns
-unfolding lacks
 returns c =
     record {
       nothing_delivered = ((delivered.nothing-whole limits).size, delivered.heard-nothing limits);
@@ -35,13 +35,11 @@ returns c =
         λ s i k t. grind (arith, owed.owed-nothing limits s i, in-none k),
       );
       signing = λ o s i sound have k w b d low high.
-          rw
-          (owed.signing-here limits o s i sound have (whole o w) b d, in-set_of-within bits _ k low high)
-          (λ t. grind (arith, nat_tests), λ t. grind (arith, nat_tests));
+          let owes = echo.signing-owes limits o s i sound have (whole o w) b d k in
+          (λ t. (owes.0 t).2, λ t. owes.1 (low, high, t));
       delivery = λ o j s i sound have k w b d low high.
-          rw
-          (owed.delivery-here limits o j s i sound have (whole o w) b d, in-set_of-within bits _ k low high)
-          (λ t. grind (arith, nat_tests), λ t. grind (arith, nat_tests));
+          let owes = echo.delivery-owes limits o s i sound have (whole o w) b d k j in
+          (λ t. ((owes.0 t).0, (owes.0 t).1.2), λ t. owes.1 (t.0, (low, high, t.1)));
       others = λ o j s i sound have s' i' f. (
         owed.signing-there limits o s i sound have s' i' f,
         owed.delivery-there limits o j s i sound have s' i' f,
