@@ -2,7 +2,8 @@ ghost use Rattle.std.specs.Prelude.{◌≡◌};
 ghost use Rattle.delivery.specs.Limits.{limits};
 ghost use Rattle.delivery.specs.Delivered.{heard};
 ghost use Rattle.vote.specs.Ballots.{tally};
-ghost use Rattle.vote.specs.Boards.{fresh_board, is_started, is_decided, is_ended, has_decided, propose, deliver_to, suspect, trust};
+ghost use Rattle.vote.specs.Boards.{fresh_board, is_started, is_decided, is_ended, has_decided, with_status, propose, deliver_to, suspect, trust};
+ghost use Rattle.vote.specs.declared.board.Status.TheVariants.{Decided};
 ghost use Rattle.vote.specs.Announcements.{announce};
 
 use crate::position::Position;
@@ -137,7 +138,16 @@ impl Board {
             && decision.value != Log::BLANK
             && self.tally(n, decision.round, decision.value) >= bus::quorum(n)
         {
-            self.status = Status::Decided(decision);
+            self.decide(decision);
         }
+    }
+
+    /// The board decides this, as one whose ballots bear it out, whatever its status: only the status changes. Whoever has not
+    /// counted its ballots asks `announce`.
+    #[tactic(auto, unfolding(crate::specs::Boards::with_status))]
+    pub fn decide(&mut self, decision: Decision)
+        ensures { self.new ≡ with_status self.old (Decided decision) }
+    {
+        self.status = Status::Decided(decision);
     }
 }
