@@ -136,9 +136,10 @@ impl Bench {
         Ok(())
     }
 
-    // One event, in place: answered, and its effect if it is accepted; a refused one leaves the bench as it is.
+    /// One event, in place: its answer is handed back, and the bench is changed if it is accepted. A refused one leaves the bench
+    /// as it is. Whoever keeps a bench in its place goes by this; nothing is copied.
     #[tactic(auto, unfolding(crate::specs::Effects::step_of, crate::specs::Answers::is_accepted))]
-    pub(crate) fn step(&mut self, e: Event) -> Result<(), Refusal>
+    pub fn step(&mut self, e: Event) -> Result<(), Refusal>
         ensures answer { result ≡ (step_of limits self.old e).answer }
         ensures bench { self.new ≡ (step_of limits self.old e).bench }
     {

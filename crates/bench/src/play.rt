@@ -1,7 +1,7 @@
 ghost use Rattle.std.specs.Prelude.{◌-◌, ◌/◌, ◌≤◌, ◌≡◌, length};
 ghost use Rattle.delivery.specs.Limits.{limits};
 ghost use Rattle.bench.specs.Events.{event_bytes};
-ghost use Rattle.bench.specs.Runs.{events_in, after, answers_to, written, ending_of, played_of, answers_after};
+ghost use Rattle.bench.specs.Runs.{events_in, after, answers_to, written, ending_of, events_played, played_of, answers_after};
 ghost use Rattle.bench.specs.Claim.{Agreement};
 ghost use Rattle.bench.specs.Demands.{played_history};
 
@@ -54,10 +54,23 @@ impl Bench {
         }
     }
 
+    /// Plays a list of events on this bench, the bytes of each as they stand in a schedule, and writes each answer's number to its
+    /// place in `answers`; the rest of `answers` stays. A list that cannot be played leaves the bench and `answers` as they were.
+    #[tactic(auto, unfolding(crate::specs::Runs::ending_of, crate::specs::Runs::played_by, crate::specs::Runs::after, crate::specs::Runs::answers_to, crate::specs::Runs::written, crate::specs::Runs::steps, crate::specs::Runs::last_of))]
+    pub fn play_on(&mut self, events: &[u8], answers: &mut [u8]) -> Result<(), Unplayed>
+        ensures ending { result ≡ ending_of (length events.now) (length answers.old) }
+        ensures bench { self.new ≡ after limits self.old (events_played events.now (length answers.old)) }
+        ensures answers { answers.new ≡ written (answers_to limits self.old (events_played events.now (length answers.old))) answers.old }
+    {
+        ending_of(events.len(), answers.len())?;
+        self.run(events, answers);
+        Ok(())
+    }
+
     // Makes a fresh bench and plays a list of events into it, the bytes of each as they stand in a schedule. Each
     // answer's number is written to its place in `answers`, and the rest of `answers` stays. A list that cannot be
     // played leaves the bench fresh and `answers` as it was.
-    #[tactic(auto, using(std::proofs::lemmas::Bool::Decides::nat_tests), unfolding(crate::specs::Runs::ending_of, crate::specs::Runs::played_of, crate::specs::Runs::answers_after, crate::specs::Runs::played_by, crate::specs::Runs::after, crate::specs::Runs::answers_to, crate::specs::Runs::written, crate::specs::Runs::steps, crate::specs::Runs::last_of, crate::specs::Setups::fresh_of))]
+    #[tactic(auto, unfolding(crate::specs::Runs::played_of, crate::specs::Runs::answers_after, crate::specs::Setups::fresh_of))]
     pub fn play(
         n: u8,
         marks: [u8; Bench::BOARDS as usize],
@@ -68,15 +81,11 @@ impl Bench {
         ensures answers { answers.new ≡ answers_after limits n marks events.now answers.old }
         ensures agreement { Agreement limits n marks (played_history events.now answers.new) result.bench }
     {
-        let fresh = Bench::fresh(n, marks);
-        let mut bench = fresh.bench;
-        let ending = ending_of(events.len(), answers.len());
-        if ending.is_ok() {
-            bench.run(events, answers);
-        }
+        let mut made = Bench::fresh(n, marks);
+        let ending = made.bench.play_on(events, answers);
         Played {
-            bench,
-            answer: fresh.answer,
+            bench: made.bench,
+            answer: made.answer,
             ending,
         }
     }

@@ -1,7 +1,7 @@
 -- `Bench::play` meets its contract: of the events that were played agreement holds. Assumes nothing.
 use Prim.Native.Nat.{ℕ, ◌≤◌}
 use native.Mathlib.Omega.{arith}
-use mathlib.Core.Path.{◌≡◌}
+use mathlib.Core.Path.{◌≡◌, ap}
 use mathlib.Core.List.{List}
 use lib.ListN.{length}
 use Rattle.delivery.specs.Limits.{limits}
@@ -11,6 +11,7 @@ use Rattle.bench.specs.Claim.{Agreement}
 use Rattle.bench.specs.Demands.{played_history}
 use Rattle.bench.proofs.RunLaws.{length-answers, length-written, played-fits, history-written}
 use Rattle.bench.proofs.Demands.{agreed}
+use Rattle.bench.specs.declared.fresh.Fresh.{Fresh}
 use Rattle.bench.proofs.bench.Bench.play.Goals as goal
 
 -- the history that stands in the buffer is that of the events that were played, so agreement holds of it
@@ -29,9 +30,10 @@ agrees-played n marks bs room =
     rw (length-written (answers_to limits c es) room fits, history-written limits c es room) (agreed n marks es)
 
 pub returns-clause-agreement : goal.returns-clause-agreement
-unfolding after answers_to written steps last_of fresh_of answers_after played_by ending_of
+unfolding fresh_of answers_after
 returns-clause-agreement c =
     let a = c.args in
-    let q : (c.if-is_ok.bench ≡ bench_after limits a.n a.marks (events_played a.events.now (length a.answers.now)))
-    × (c.if-is_ok.answers ≡ answers_after limits a.n a.marks a.events.now a.answers.now) = grind arith in
-    rw (q.0, q.1) (agrees-played a.n a.marks a.events.now a.answers.now)
+    let made = ap (λ (f : Fresh). f.bench) c.fresh-made.ensures in
+    let bench : c.play_on-ending.new.self ≡ bench_after limits a.n a.marks (events_played a.events.now (length a.answers.now)) = grind arith in
+    let answers : c.play_on-ending.new.answers ≡ answers_after limits a.n a.marks a.events.now a.answers.now = grind arith in
+    rw (bench, answers) (agrees-played a.n a.marks a.events.now a.answers.now)
