@@ -1,5 +1,5 @@
 // For measuring alone: a schedule file played by `Bench::apply`, by which a bench goes by value, into a call and out of it.
-// Everything else here plays by the step in place, so what the copies cost shows nowhere else.
+// A report is played by a step in place, so what the copies cost does not show there.
 #![tactic(auto)]
 
 ghost use Rattle.std.specs.Prelude.{◌*◌, ◌≤◌, ◌≡◌, length};
