@@ -15,13 +15,12 @@ use crate::random::Random;
 /// How many living schedules are timed together, and how long they are.
 const SHORT_FILES: u64 = 300;
 const SHORT_EVENTS: (u64, u64) = (20, 60);
-/// Of so many of them the trace is timed.
+/// The trace is timed for so many of them, the first.
 const TRACED_FILES: usize = 30;
 /// The rounds at which single events are timed.
 const ROUNDS_SEEN: [u8; 2] = [2, 31];
 /// How many events are appended to see what one of them costs.
 const APPENDED: usize = 1800;
-
 /// Where seven events are what is sought, so many are played in a run, in files played again.
 const PLAYED: usize = 60_000;
 
@@ -103,7 +102,7 @@ pub fn all() -> Vec<Case> {
 fn trace_case(mut files: Vec<Vec<u8>>) -> Case {
     files.truncate(TRACED_FILES);
     let events = files.iter().map(|file| answers(file).len()).sum();
-    let name = format!("the trace of the first {TRACED_FILES} of these files");
+    let name = format!("the trace of {TRACED_FILES} of the living files");
     Case::of(name, Way::Trace, (events, "event"), files)
 }
 
