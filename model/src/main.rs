@@ -9,7 +9,7 @@ use model::generate::{file, Kind, Wish};
 use model::limits::{BOARDS, EVENTS};
 use model::proved::Proved;
 use model::record::Check;
-use model::timing;
+use model::timing::{self, count, stack, Uncounted};
 use model::trial::{run, Corpus, Failure, Trial};
 use std::io::{self, Read, Write};
 use std::process::ExitCode;
@@ -21,12 +21,16 @@ usage: model play < FILE
                      [--require-coverage]
        model check [--schedules NUMBER] [--seed SEED] [--kind KIND] [--save FOLDER]
        model time [--runs NUMBER]
+       model time --count
+       model stack
 KIND is bytes, fields, living, stubborn or damaged; without one the seed draws it.
 ";
 
-/// What can go wrong: the command was not understood, or it could not be done.
+/// What can go wrong: the command was not understood, needs what is not here, or failed.
 enum Trouble {
     Usage(String),
+    Lacking(String),
+    Failed(String),
     Io(io::Error),
 }
 
@@ -42,6 +46,18 @@ impl From<io::Error> for Trouble {
     }
 }
 
+impl From<Uncounted> for Trouble {
+    fn from(why: Uncounted) -> Trouble {
+        match why {
+            Uncounted::NoValgrind => Trouble::Lacking(
+                "--count needs valgrind, which is not on the PATH; nothing was counted".into(),
+            ),
+            Uncounted::Failed(told) => Trouble::Failed(format!("valgrind failed: {told}")),
+            Uncounted::Io(error) => Trouble::Io(error),
+        }
+    }
+}
+
 fn main() -> ExitCode {
     let words: Vec<String> = std::env::args().skip(1).collect();
     match command(&words) {
@@ -49,6 +65,14 @@ fn main() -> ExitCode {
         Err(Trouble::Usage(message)) => {
             eprint!("model: {message}\n{USAGE}");
             ExitCode::from(2)
+        }
+        Err(Trouble::Lacking(message)) => {
+            eprintln!("model: {message}");
+            ExitCode::from(2)
+        }
+        Err(Trouble::Failed(message)) => {
+            eprintln!("model: {message}");
+            ExitCode::from(1)
         }
         Err(Trouble::Io(error)) => {
             eprintln!("model: {error}");
@@ -77,7 +101,9 @@ fn command(words: &[String]) -> Result<ExitCode, Trouble> {
             &["schedules", "seed", "kind", "save"],
             &[],
         )?),
-        "time" => time(Arguments::read(rest, &["runs"], &[])?),
+        "time" => time(Arguments::read(rest, &["runs"], &["count"])?),
+        "stack" => stack(Arguments::read(rest, &[], &[])?),
+        count::COMMAND => counted(Arguments::read(rest, &["folder"], &[])?),
         "help" | "--help" => {
             print!("{USAGE}");
             Ok(ExitCode::SUCCESS)
@@ -126,8 +152,30 @@ fn check(arguments: Arguments) -> Result<ExitCode, Trouble> {
 }
 
 fn time(arguments: Arguments) -> Result<ExitCode, Trouble> {
-    let runs = arguments.number("runs", 1, 1_000_000)?.unwrap_or(51);
-    print!("{}", timing::table(&mut Proved, runs as usize));
+    let runs = arguments.number("runs", 1, 1_000_000)?;
+    if arguments.flag("count") {
+        if runs.is_some() {
+            return Err(Trouble::Usage(
+                "--count counts one run, and goes without --runs".into(),
+            ));
+        }
+        print!("{}", count::table()?);
+    } else {
+        print!("{}", timing::table(runs.unwrap_or(51) as usize));
+    }
+    Ok(ExitCode::SUCCESS)
+}
+
+fn stack(_: Arguments) -> Result<ExitCode, Trouble> {
+    print!("{}", stack::table()?);
+    Ok(ExitCode::SUCCESS)
+}
+
+/// What `time --count` starts under valgrind; it is of no use otherwise.
+fn counted(arguments: Arguments) -> Result<ExitCode, Trouble> {
+    let folder = arguments.text("folder");
+    let folder = folder.ok_or("counted needs --folder".to_string())?;
+    count::play_parts(folder.as_ref())?;
     Ok(ExitCode::SUCCESS)
 }
 

@@ -2,6 +2,7 @@
 
 use crate::board::{Board, Stage, Status};
 use crate::boards::Boards;
+use crate::file::open;
 use crate::limits::{BOARDS, IDENTIFIERS};
 use crate::machine::Bench;
 
@@ -34,6 +35,27 @@ pub fn write_row(bench: &Bench, answer: u8, row: &mut [u32; ROW]) {
     for k in bench.sound().iter() {
         write_delivered(bench, k, row);
     }
+}
+
+/// Lays the rows of a file into `out`, one for the fresh bench and one after each event, and
+/// says how many words they are. If that is more than `out` holds, it stays. A file that is
+/// refused has no rows.
+pub fn trace(file: &[u8], out: &mut [u32]) -> usize {
+    let Ok(opened) = open(file) else {
+        return 0;
+    };
+    let length = (opened.events().len() + 1) * ROW;
+    if length > out.len() {
+        return length;
+    }
+    let (rows, _) = out[..length].as_chunks_mut();
+    let mut bench = opened.bench();
+    write_row(&bench, 0, &mut rows[0]);
+    for (row, e) in rows[1..].iter_mut().zip(opened.events()) {
+        let answer = bench.event(e).answer;
+        write_row(&bench, answer, row);
+    }
+    length
 }
 
 fn standing(board: &Board, last: u8) -> [u32; STANDING] {

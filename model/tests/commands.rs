@@ -66,6 +66,10 @@ fn bad_usage_ends_with_2() {
         "check --require-coverage",
         "time --runs 0",
         "time --runs 1 --runs 2",
+        "time --count --runs 3",
+        "time --count 3",
+        "stack --runs 3",
+        "counted",
     ];
     for line in lines {
         let words: Vec<_> = line.split_whitespace().collect();
@@ -110,13 +114,72 @@ fn check_ends_with_a_count() {
     assert_eq!(output.status.code(), Some(0));
 }
 
+/// The lines of a table that have a cost of this sort in each of their columns.
+fn rows(output: &Output, cost: &str) -> usize {
+    let told = String::from_utf8_lossy(&output.stdout).into_owned();
+    let rows = told.lines().filter(|line| line.starts_with("| "));
+    rows.filter(|line| line.matches(cost).count() == 2).count()
+}
+
 #[test]
 fn time_prints_a_table() {
     let output = model(&["time", "--runs", "1"], &[]);
+    assert_eq!(rows(&output, " ns per "), 18, "{output:?}");
+    assert_eq!(output.status.code(), Some(0));
+}
+
+/// Where there is valgrind, and where there is none.
+#[test]
+fn count_prints_a_table_or_says_what_it_lacks() {
+    let output = model(&["time", "--count"], &[]);
+    if output.status.code() == Some(0) {
+        assert_eq!(rows(&output, " instructions per "), 18, "{output:?}");
+    }
+    let mut without = Command::new(env!("CARGO_BIN_EXE_model"));
+    let output = without.args(["time", "--count"]).env("PATH", "").output();
+    let output = output.expect("the command ends");
+    let told = String::from_utf8_lossy(&output.stderr).into_owned();
+    assert!(
+        told.contains("needs valgrind") && output.stdout.is_empty(),
+        "{told}"
+    );
+    assert_eq!(output.status.code(), Some(2));
+}
+
+/// A valgrind that fails is told of, and the files that were made for it are gone.
+#[cfg(unix)]
+#[test]
+fn a_valgrind_that_fails_is_told_of() {
+    use std::fs;
+    let name = format!("model-valgrind-{}", std::process::id());
+    let folder = std::env::temp_dir().join(name);
+    let (path, files) = (folder.join("path"), folder.join("files"));
+    for made in [&path, &files] {
+        fs::create_dir_all(made).expect("a folder");
+    }
+    // A shell that is called as valgrind is does not know what it is asked.
+    std::os::unix::fs::symlink("/bin/sh", path.join("valgrind")).expect("a link");
+    let output = Command::new(env!("CARGO_BIN_EXE_model"))
+        .args(["time", "--count"])
+        .env("PATH", &path)
+        .env("TMPDIR", &files)
+        .output()
+        .expect("the command ends");
+    let left = fs::read_dir(&files).expect("a folder").count();
+    fs::remove_dir_all(&folder).expect("the folders can be removed");
+    let told = String::from_utf8_lossy(&output.stderr).into_owned();
+    assert!(told.contains("valgrind failed: exit status: "), "{told}");
+    assert_eq!((output.status.code(), left), (Some(1), 0));
+}
+
+#[test]
+fn stack_prints_a_table() {
+    let output = model(&["stack"], &[]);
     let told = String::from_utf8_lossy(&output.stdout).into_owned();
-    let rows = told
-        .lines()
-        .filter(|line| line.starts_with("| ") && line.contains(" ns per "))
-        .count();
-    assert_eq!(rows, 12, "{told}");
+    assert_eq!(
+        told.lines().filter(|line| line.starts_with("| ")).count(),
+        4,
+        "{told}"
+    );
+    assert_eq!(output.status.code(), Some(0));
 }

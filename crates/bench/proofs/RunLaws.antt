@@ -13,6 +13,7 @@ use Rattle.signer.proofs.FromOneLaws.{nth-index}
 use Rattle.delivery.specs.Limits.{Limits}
 use Rattle.bench.specs.Events.{high_first, event_bytes, event_from}
 use Rattle.bench.specs.Setups.{fresh_bench}
+use Rattle.bench.specs.Answers.{answer_number}
 use Rattle.bench.specs.Effects.{step_of}
 use Rattle.bench.specs.Runs.{steps, last_of, after, answers_to, events_in, ending_of, played_by, events_played, written, played_of, answers_after}
 use Rattle.bench.specs.Story.{history_of}
@@ -49,6 +50,16 @@ pub after-cons : (L : Limits) (c : Bench) (e : Event) (es : List Event)
     → after L c (e ∷ es) ≡ after L (step_of L c e).bench es
 unfolding after steps last_of
 after-cons L c e es = refl
+
+-- and the answers to them
+pub answers-nil : (L : Limits) (c : Bench) → answers_to L c [] ≡ []
+unfolding answers_to steps
+answers-nil L c = refl
+
+pub answers-cons : (L : Limits) (c : Bench) (e : Event) (es : List Event)
+    → answers_to L c (e ∷ es) ≡ answer_number (step_of L c e).answer ∷ answers_to L (step_of L c e).bench es
+unfolding answers_to steps
+answers-cons L c e es = refl
 
 -- no events, and one more
 pub events-none : (bs : List ℕ) → events_in 0 bs ≡ []

@@ -1,39 +1,117 @@
 //! The schedules that are timed.
 
-use crate::boards::Boards;
+use super::histories::{
+    coordinator, deciding, everyone, going_on, opening_value, waiting_at_b, waiting_at_c,
+    ANNOUNCER, PROBED,
+};
+use super::sides::Way;
 use crate::file::Schedule;
 use crate::generate::script::Script;
 use crate::generate::{file, Kind, Wish};
-use crate::limits::{ballot_of, opening_of, BOARDS, EVENTS};
+use crate::limits::{opening_of, BOARDS, EVENTS};
 use crate::machine::{Event, DELIVER};
 use crate::random::Random;
 
 /// How many living schedules are timed together, and how long they are.
 const SHORT_FILES: u64 = 300;
 const SHORT_EVENTS: (u64, u64) = (20, 60);
+/// The trace is timed for so many of them, the first.
+const TRACED_FILES: usize = 30;
+/// The rounds at which single events are timed.
+const ROUNDS_SEEN: [u8; 2] = [2, 31];
 /// How many events are appended to see what one of them costs.
 const APPENDED: usize = 1800;
+/// Where seven events are what is sought, so many are played in a run, in files played again.
+const PLAYED: usize = 60_000;
 
-/// Files to time, files whose time is taken off, and how many units the rest is shared by.
+/// Files to play, files whose cost is taken off, and how many units the rest is shared by.
 pub struct Case {
     pub name: String,
+    pub way: Way,
     pub unit: &'static str,
     pub units: usize,
     pub with: Vec<Vec<u8>>,
     pub without: Vec<Vec<u8>>,
+    /// How often they are timed in one run.
+    pub times: usize,
+}
+
+impl Case {
+    /// The cost of some files by themselves.
+    fn of(
+        name: String,
+        way: Way,
+        (units, unit): (usize, &'static str),
+        files: Vec<Vec<u8>>,
+    ) -> Case {
+        Case {
+            name,
+            way,
+            unit,
+            units,
+            with: files,
+            without: Vec::new(),
+            times: 1,
+        }
+    }
+
+    /// The cost of so many events, which stand at the end of `with` and not of `without`.
+    fn of_last(name: String, events: usize, with: Vec<u8>, without: Vec<u8>) -> Case {
+        Case {
+            without: vec![without],
+            ..Case::of(name, Way::Report, (events, "event"), vec![with])
+        }
+    }
 }
 
 pub fn all() -> Vec<Case> {
-    let mut cases = vec![short_files(), long_file()];
-    for probe in PROBES {
-        for round in [2, 31] {
-            cases.push(probe_case(&probe, round));
-        }
+    let short = short_files();
+    let long = long_file();
+    let mut cases = vec![
+        Case::of(
+            format!(
+                "{SHORT_FILES} living files of {} to {} events",
+                SHORT_EVENTS.0, SHORT_EVENTS.1
+            ),
+            Way::Report,
+            (short.len(), "file"),
+            short.clone(),
+        ),
+        Case::of(
+            format!(
+                "{EVENTS} events with {BOARDS} boards, {} accepted",
+                accepted(&long)
+            ),
+            Way::Report,
+            (EVENTS, "event"),
+            vec![long.clone()],
+        ),
+    ];
+    for probe in &PROBES {
+        cases.extend(ROUNDS_SEEN.map(|round| probe_case(probe, round)));
     }
+    for end in &ENDS {
+        cases.extend(ROUNDS_SEEN.map(|round| end_case(end, round)));
+    }
+    cases.push(trace_case(short));
+    cases.push(by_value_case(long));
     cases
 }
 
-fn short_files() -> Case {
+/// A row for each event, and one for each file's fresh bench.
+fn trace_case(mut files: Vec<Vec<u8>>) -> Case {
+    files.truncate(TRACED_FILES);
+    let events = files.iter().map(|file| answers(file).len()).sum();
+    let name = format!("the trace of {TRACED_FILES} of the living files");
+    Case::of(name, Way::Trace, (events, "event"), files)
+}
+
+fn by_value_case(long: Vec<u8>) -> Case {
+    let name = format!("the {EVENTS} events by `apply`: a bench by value, in and out");
+    Case::of(name, Way::ByValue, (EVENTS, "event"), vec![long])
+}
+
+pub fn short_files() -> Vec<Vec<u8>> {
     let mut random = Random::new(7);
     let mut short = |seed| {
         let events = random.between(SHORT_EVENTS.0, SHORT_EVENTS.1) as usize;
@@ -43,38 +121,19 @@ fn short_files() -> Case {
         };
         file(Kind::Living, seed, wish)
     };
-    Case {
-        name: format!(
-            "{SHORT_FILES} living files of {} to {} events",
-            SHORT_EVENTS.0, SHORT_EVENTS.1
-        ),
-        unit: "file",
-        units: SHORT_FILES as usize,
-        with: (0..SHORT_FILES).map(&mut short).collect(),
-        without: Vec::new(),
-    }
+    (0..SHORT_FILES).map(&mut short).collect()
 }
 
 /// The first full stubborn file of seven boards, at least five of them sound, of whose events
 /// most are accepted and in which openings were read in many rounds.
-fn long_file() -> Case {
+pub fn long_file() -> Vec<u8> {
     let wish = Wish {
         boards: Some(BOARDS as u8),
         events: Some(EVENTS),
     };
     let mut files = (0..200).map(|seed| file(Kind::Stubborn, seed, wish));
     let long = files.find(|file| accepted(file) * 4 >= EVENTS * 3 && is_busy(file));
-    let long = long.expect("some file is busy enough");
-    Case {
-        name: format!(
-            "{EVENTS} events with {BOARDS} boards, {} accepted",
-            accepted(&long)
-        ),
-        unit: "event",
-        units: EVENTS,
-        with: vec![long],
-        without: Vec::new(),
-    }
+    long.expect("some file is busy enough")
 }
 
 /// Whether five boards or more are sound, and ballots with a value are delivered often.
@@ -108,11 +167,6 @@ struct Probe {
     prepare: fn(u8) -> Script,
     event: fn(u8) -> Event,
 }
-
-/// The board that the probes are about. It coordinates neither round 2 nor round 31.
-const PROBED: u8 = 5;
-/// The board that has decided when it announces.
-const ANNOUNCER: u8 = 4;
 
 const PROBES: [Probe; 5] = [
     Probe {
@@ -153,115 +207,59 @@ const PROBES: [Probe; 5] = [
 fn probe_case(probe: &Probe, round: u8) -> Case {
     let mut schedule = (probe.prepare)(round).finish();
     let without = schedule.to_bytes();
-    append(&mut schedule, (probe.event)(round));
+    append(&mut schedule, &[(probe.event)(round); APPENDED]);
     let with = schedule.to_bytes();
     assert!(answers(&with).ends_with(&[probe.answer; APPENDED]));
-    Case {
-        name: format!("{}, round {round}", probe.name),
-        unit: "event",
-        units: APPENDED,
-        with: vec![with],
-        without: vec![without],
-    }
+    let name = format!("{}, round {round}", probe.name);
+    Case::of_last(name, APPENDED, with, without)
 }
 
-fn append(schedule: &mut Schedule, e: Event) {
-    schedule.events.extend([e; APPENDED]);
+fn append(schedule: &mut Schedule, events: &[Event]) {
+    schedule.events.extend(events);
     assert!(schedule.events.len() <= EVENTS, "the history is too long");
 }
 
-fn coordinator(round: u8) -> u8 {
-    (round - 1) % BOARDS as u8 + 1
+/// How a round ends: a turn of each board that is made once, since it changes the board.
+struct End {
+    name: &'static str,
+    prepare: fn(u8) -> Script,
 }
 
-/// What a board proposes, and keeps as its estimate.
-fn own_value(board: u8) -> u16 {
-    100 + board as u16
-}
+const ENDS: [End; 2] = [
+    End {
+        name: "a turn that decides",
+        prepare: deciding,
+    },
+    End {
+        name: "a turn that goes on to the next round",
+        prepare: going_on,
+    },
+];
 
-fn opening_value(round: u8) -> u16 {
-    own_value(coordinator(round))
-}
-
-fn everyone() -> impl Iterator<Item = u8> {
-    1..=BOARDS as u8
-}
-
-/// Seven sound boards at the start of `round`, to which all that was said before is delivered.
-fn history(round: u8) -> Script {
-    let mut script = Script::new(Random::new(0), BOARDS as u8, Boards::NONE, EVENTS);
-    for a in everyone() {
-        script.play(Event::propose(a, own_value(a)));
-        for b in everyone().filter(|&b| b != a) {
-            script.play(Event::suspect(a, b));
-        }
+fn end_case(end: &End, round: u8) -> Case {
+    let mut schedule = (end.prepare)(round).finish();
+    let without = schedule.to_bytes();
+    let turns: Vec<Event> = everyone().map(Event::turn).collect();
+    append(&mut schedule, &turns);
+    let with = schedule.to_bytes();
+    assert!(answers(&with).ends_with(&[0; BOARDS]));
+    let name = format!("{}, round {round}", end.name);
+    Case {
+        times: PLAYED / schedule.events.len(),
+        ..Case::of_last(name, turns.len(), with, without)
     }
-    for before in 1..round {
-        pass(&mut script, before);
-    }
-    script
-}
-
-/// A round in which the coordinator alone votes for its value, and all go on with their own.
-fn pass(script: &mut Script, round: u8) {
-    for a in everyone() {
-        script.play(Event::turn(a));
-        script.play(Event::turn(a));
-    }
-    let others = |a: u8| everyone().filter(move |&b| b != a && b != coordinator(round));
-    for a in everyone() {
-        for b in others(a).take(3) {
-            script.play(Event::deliver(a, b, ballot_of(round), 0));
-        }
-        script.play(Event::turn(a));
-    }
-    while let Some(parcel) = script.parcels.first() {
-        let e = parcel.event();
-        script.play(e);
-    }
-}
-
-/// The probed board waits for the opening, and trusts the coordinator to send it.
-fn waiting_at_b(round: u8) -> Script {
-    let mut script = history(round);
-    for a in everyone() {
-        script.play(Event::turn(a));
-    }
-    script.play(Event::trust(PROBED, coordinator(round)));
-    script
-}
-
-/// All boards voted for the opening. The announcer has decided; the probed board lacks a ballot.
-fn waiting_at_c(round: u8) -> Script {
-    let mut script = waiting_at_b(round);
-    let (opening, value) = (opening_of(round), opening_value(round));
-    for a in everyone() {
-        if a != coordinator(round) {
-            script.play(Event::deliver(a, coordinator(round), opening, value));
-        }
-        script.play(Event::turn(a));
-    }
-    for (a, ballots) in [(ANNOUNCER, 6), (PROBED, 2)] {
-        for b in everyone().filter(|&b| b != a).take(ballots) {
-            script.play(Event::deliver(a, b, ballot_of(round), value));
-        }
-    }
-    script.play(Event::turn(ANNOUNCER));
-    script
 }
 
 #[cfg(test)]
 mod tests {
     use super::*;
-    use crate::acceptance::accepted_opening;
     use crate::board::{Stage, Status};
-    use crate::limits::Sizes;
 
     /// Each appended event has the answer that it is timed for, at the round it is timed for.
     #[test]
     fn probes_are_answered_as_meant() {
         for probe in PROBES {
-            for round in [2, 31] {
+            for round in ROUNDS_SEEN {
                 let case = probe_case(&probe, round);
                 let answers = answers(&case.with[0]);
                 let appended = &answers[answers.len() - APPENDED..];
@@ -274,33 +272,45 @@ mod tests {
         }
     }
 
+    /// Each turn that ends a round is answered 0, and ends it as it is timed for.
     #[test]
-    fn the_history_is_what_it_says() {
-        for round in [2, 31] {
-            let bench = waiting_at_c(round).bench;
-            let board = bench.board(PROBED);
-            assert_eq!((board.stage, board.status), (Stage::C, Status::Voting));
-            let sizes = Sizes::of(BOARDS as u8);
-            let opening = accepted_opening(sizes, &board.delivered, round);
-            assert_eq!(opening, Some(opening_value(round)));
-            for id in 1..opening_of(round) {
-                let speakers = board.delivered.slate(id).speakers().count();
-                assert_eq!(speakers, if id % 2 == 1 { 1 } else { BOARDS as u8 });
+    fn ends_are_as_meant() {
+        for round in ROUNDS_SEEN {
+            let (mut deciding, mut going_on) = (deciding(round).bench, going_on(round).bench);
+            for a in everyone() {
+                let effect = deciding.event(Event::turn(a));
+                assert_eq!(effect.decided, Some((round, opening_value(round))));
+                let before = going_on.board(a);
+                assert_eq!((before.round, before.stage), (round, Stage::C));
+                assert_eq!(going_on.event(Event::turn(a)).answer, 0);
+                let after = going_on.board(a);
+                assert_eq!((after.round, after.status), (round + 1, Status::Voting));
+                assert_eq!(after.estimate, opening_value(round));
             }
-            assert!(matches!(
-                bench.board(ANNOUNCER).status,
-                Status::Decided { .. }
-            ));
+            for end in &ENDS {
+                let case = end_case(end, round);
+                assert_eq!(
+                    answers(&case.with[0])[..],
+                    [0; EVENTS][..count(&case.with[0])]
+                );
+                assert_eq!(count(&case.with[0]), count(&case.without[0]) + BOARDS);
+                assert_eq!(case.units, BOARDS);
+            }
         }
+    }
+
+    fn count(file: &[u8]) -> usize {
+        answers(file).len()
     }
 
     #[test]
     fn files_are_good() {
         let cases = all();
-        assert_eq!(cases.len(), 12);
+        assert_eq!(cases.len(), 18);
         assert_eq!(cases[0].with.len() as u64, SHORT_FILES);
         for case in &cases {
             assert!(case.with.iter().all(|file| !answers(file).is_empty()));
+            assert!(case.units > 0 && case.times > 0, "{}", case.name);
         }
     }
 }

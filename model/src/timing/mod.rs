@@ -1,60 +1,62 @@
-//! How long the proved library and the model take for the same schedules.
+//! What the proved library and the model cost for the same schedules: in time, in instructions,
+//! and in stack.
 //!
-//! Both are asked for the report of the same files, in turn and in one process, and the medians
-//! of a number of runs are shown.
+//! Both are asked for the same of the same files, in turn and in one process.
 
 mod cases;
+pub mod count;
+mod histories;
+mod sides;
+pub mod stack;
 
-use crate::compare::{Player, LONGEST_REPORT};
-use crate::file::report;
 use cases::Case;
-use std::hint::black_box;
+pub use count::Uncounted;
+use sides::{Library, Model, Side};
 use std::time::Instant;
 
 /// Runs that are not counted, at the start of each case.
 const WARMING: usize = 3;
 
-/// Nanoseconds, by the library and by the model.
+/// What a unit of a case costs, by the library and by the model.
 struct Cost {
     library: f64,
     model: f64,
 }
 
 /// Measures all cases and gives a table in Markdown.
-pub fn table(library: &mut impl Player, runs: usize) -> String {
-    let mut text = format!(
-        "Medians of {runs} runs, library and model in turn, each asked for the report of a file.\n\n"
-    );
-    text += "| case | library | model | library / model |\n|---|---:|---:|---:|\n";
+pub fn table(runs: usize) -> String {
+    let (mut library, mut model) = (Library::new(), Model::new());
+    let mut text = format!("Nanoseconds: medians of {runs} runs, library and model in turn.\n\n");
+    text += HEAD;
     for case in cases::all() {
-        let cost = measure(&case, library, runs);
-        text += &format!(
-            "| {} | {:.0} ns per {} | {:.0} ns per {} | {:.2} |\n",
-            case.name,
-            cost.library,
-            case.unit,
-            cost.model,
-            case.unit,
-            cost.library / cost.model
-        );
+        let cost = measure(&case, &mut library, &mut model, runs);
+        text += &line(&case, "ns", &cost);
     }
     text
 }
 
+const HEAD: &str = "| case | library | model | library / model |\n|---|---:|---:|---:|\n";
+
+/// A case's line of a table.
+fn line(case: &Case, what: &str, cost: &Cost) -> String {
+    format!(
+        "| {} | {:.0} {what} per {} | {:.0} {what} per {} | {:.2} |\n",
+        case.name,
+        cost.library,
+        case.unit,
+        cost.model,
+        case.unit,
+        cost.library / cost.model
+    )
+}
+
 /// The median cost of one unit of a case on both sides.
-fn measure(case: &Case, library: &mut impl Player, runs: usize) -> Cost {
-    let mut printed = vec![0; LONGEST_REPORT];
-    let mut written = Vec::with_capacity(LONGEST_REPORT);
+fn measure(case: &Case, library: &mut impl Side, model: &mut impl Side, runs: usize) -> Cost {
     let mut costs: Vec<Cost> = Vec::with_capacity(runs);
     for run in 0..WARMING + runs {
         let cost = Cost {
-            library: unit_cost(case, &mut |file| {
-                black_box(library.report(black_box(file), &mut printed));
-            }),
-            model: unit_cost(case, &mut |file| {
-                report(black_box(file), &mut written);
-                black_box(&written);
-            }),
+            library: unit_cost(case, library),
+            model: unit_cost(case, model),
         };
         if run >= WARMING {
             costs.push(cost);
@@ -67,17 +69,19 @@ fn measure(case: &Case, library: &mut impl Player, runs: usize) -> Cost {
 }
 
 /// What one unit costs: the files with it less the files without it, shared out.
-fn unit_cost(case: &Case, play: &mut dyn FnMut(&[u8])) -> f64 {
-    let without = time(&case.without, play);
-    let with = time(&case.with, play);
-    (with - without) / case.units as f64
+fn unit_cost(case: &Case, side: &mut impl Side) -> f64 {
+    let mut left = 0.0;
+    for _ in 0..case.times {
+        left += time(case, &case.with, side) - time(case, &case.without, side);
+    }
+    left / (case.times * case.units) as f64
 }
 
 /// How many nanoseconds the files take together.
-fn time(files: &[Vec<u8>], play: &mut dyn FnMut(&[u8])) -> f64 {
+fn time(case: &Case, files: &[Vec<u8>], side: &mut impl Side) -> f64 {
     let start = Instant::now();
     for file in files {
-        play(file);
+        side.play(case.way, file);
     }
     start.elapsed().as_nanos() as f64
 }
@@ -91,6 +95,7 @@ fn median(numbers: impl Iterator<Item = f64>) -> f64 {
 
 #[cfg(test)]
 mod tests {
+    use super::sides::Way;
     use super::*;
 
     #[test]
@@ -102,17 +107,13 @@ mod tests {
     #[test]
     fn a_slow_library_is_seen() {
         struct Slow;
-        impl Player for Slow {
-            fn report(&mut self, file: &[u8], _out: &mut [u8]) -> usize {
+        impl Side for Slow {
+            fn play(&mut self, _: Way, file: &[u8]) {
                 std::thread::sleep(std::time::Duration::from_micros(3 * file.len() as u64));
-                0
-            }
-            fn trace(&mut self, _file: &[u8], _out: &mut [u32]) -> usize {
-                0
             }
         }
         let case = &cases::all()[2];
-        let cost = measure(case, &mut Slow, 1);
+        let cost = measure(case, &mut Slow, &mut Model::new(), 1);
         assert!(cost.library > 2.0 * cost.model);
     }
 }

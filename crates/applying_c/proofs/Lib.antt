@@ -1,0 +1,2 @@
+-- Laws of what a file is answered (AnsweredLaws).
+pub mod AnsweredLaws

@@ -1,0 +1,2 @@
+-- What a reader must believe of the call that is measured: what a schedule file is answered.
+pub mod Answered
