@@ -1,16 +1,17 @@
 -- A bench's boards and signers: the place of each, who has delivered a statement, and fresh ones. Assumes nothing.
 use Rattle.std.specs.Prelude.{◌==◌, not}
 use Prim.Native.Nat.{ℕ, ◌+◌, ◌-◌, ◌<◌}
-use mathlib.Core.Path.{◌≡◌, ap, ◌∙◌}
+use mathlib.Core.Path.{◌≡◌, refl, ap, ◌∙◌}
 use lib.ListN.{length, get_or}
 use native.Mathlib.Omega.{arith}
 use Rattle.signer.proofs.FromOneLaws.{nth-any, set_nth-index, set_nth-none, within_low, within-high, within-out, nth-replicate}
+use Rattle.signer.specs.Log.{entry_at}
 use Rattle.signer.specs.Signer.{fresh_signer}
 use Rattle.delivery.specs.Limits.{Limits}
 use Rattle.delivery.specs.Delivered.{heard}
 use Rattle.vote.specs.Boards.{fresh_board}
 use Rattle.vote.specs.declared.board.Board.{Board}
-use Rattle.bench.specs.Benches.{board_at, signer_at, holds}
+use Rattle.bench.specs.Benches.{board_at, signer_at, signed_by, holds}
 use Rattle.bench.specs.Setups.{bench_of}
 use Rattle.bench.specs.declared.bench.Bench.{Bench}
 
@@ -26,6 +27,18 @@ holds-at L c s i k d h =
     ap
     (λ (b : Board). not (heard L b.delivered s i == 0))
     (nth-any c.boards (k + 1) (fresh_board L) d (omega arith) (omega arith) ∙ ap (λ (j : ℕ). get_or c.boards j d) e)
+
+-- boards stand in the order of their numbers
+pub board-index : (L : Limits) (c : Bench) (k : ℕ) (d : Board) → k < length c.boards → board_at L c (k + 1) ≡ get_or c.boards k d
+unfolding board_at
+board-index L c k d h =
+    let e : k + 1 - 1 ≡ k = omega arith in
+    nth-any c.boards (k + 1) (fresh_board L) d (omega arith) (omega (arith, h)) ∙ ap (λ (j : ℕ). get_or c.boards j d) e
+
+-- what was signed is what stands in the signer's log
+pub signed-log : (L : Limits) (c : Bench) (s i : ℕ) → signed_by L c s i ≡ entry_at (signer_at L c s).log i
+unfolding signed_by
+signed-log L c s i = refl
 
 -- on a bench on which nothing has happened, every board and every signer is a fresh one
 pub board-fresh : (L : Limits) (n sound k : ℕ) → board_at L (bench_of L n sound) k ≡ fresh_board L

@@ -1,7 +1,7 @@
 -- Laws of what a board has delivered. Assumes nothing.
 use Rattle.std.specs.Prelude.{None, Some}
-use Prim.Native.Nat.{◌+◌, ℕ, ◌*◌, ◌≤◌}
-use mathlib.Core.Path.{◌≡◌}
+use Prim.Native.Nat.{◌+◌, ◌-◌, ℕ, ◌*◌, ◌≤◌, ◌<◌}
+use mathlib.Core.Path.{◌≡◌, ap}
 use mathlib.Core.List.{List}
 use mathlib.Core.Bool.{true, false}
 use mathlib.Core.Logic.{◌⊎◌}
@@ -9,7 +9,7 @@ use native.Mathlib.Omega.{arith}
 use lib.ListN.{length, get_or, set, length-replicate}
 use Rattle.std.proofs.lemmas.Bool.Decides.{nat_tests}
 use Rattle.signer.specs.Log.{is_identifier, entry_of}
-use Rattle.signer.proofs.FromOneLaws.{nth-none, set_nth-none, nth_after, set_nth-index, length-set_nth, nth-set-same, nth-replicate, within_low, nth-change}
+use Rattle.signer.proofs.FromOneLaws.{nth-none, set_nth-none, nth_after, set_nth-index, length-set_nth, nth-set-same, nth-replicate, within_low, within_in, nth-change}
 use Rattle.delivery.specs.Limits.{Limits}
 use Rattle.delivery.specs.Bus.{is_board}
 use Rattle.delivery.specs.Delivered.{place_of, index_of, heard_in, nothing_delivered, heard, deliver}
@@ -96,6 +96,18 @@ module _ (L : Limits) (d : Delivered) (s i : ℕ) where
   pub deliver-taken : (v j : ℕ) → index_of L s i ≡ Some j → (get_or d.entries j 0 ≡ 0 → ⊥) → deliver L d s i v ≡ d
   unfolding deliver
   deliver-taken v j e f = grind (arith, nat_tests, heard-at j e)
+
+-- so the entries stand by speaker, and of each speaker by identifier
+pub heard-index : (L : Limits) (es : List ℕ) (s i : ℕ) → s < L.boards → i < L.identifiers
+    → heard_in L es (s + 1) (i + 1) ≡ get_or es (L.identifiers * s + i) 0
+unfolding heard_in
+heard-index L es s i b h =
+    let speaker = within_in L.boards (s + 1) (omega arith) (omega (arith, b)) in
+    let identifier = within_in L.identifiers (i + 1) (omega arith) (omega (arith, h)) in
+    let back : s + 1 - 1 ≡ s = omega arith in
+    let row = ap (λ (j : ℕ). j * L.identifiers + (i + 1)) back in
+    let place : place_of L (s + 1) (i + 1) ≡ L.identifiers * s + i + 1 = omega (arith, place-there L (s + 1) (i + 1) speaker identifier, row) in
+    rw place (nth_after es (L.identifiers * s + i) 0)
 
 pub ruleset indexes = (index-nobody, index-outside, index-there, within_low)
 

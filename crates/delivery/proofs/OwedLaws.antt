@@ -1,13 +1,14 @@
 -- Laws of the copies that are owed. Assumes nothing.
 use Rattle.std.specs.Prelude.{◌==◌, ◌&&◌, ◌||◌, not}
-use Prim.Native.Nat.{ℕ, ◌≤◌}
+use Prim.Native.Nat.{ℕ, ◌+◌, ◌-◌, ◌≤◌, ◌<◌}
 use mathlib.Core.Path.{◌≡◌, ap, ◌∙◌}
 use mathlib.Core.Bool.{Bool, true}
 use mathlib.Core.Logic.{◌⊎◌}
 use native.Mathlib.Omega.{arith}
-use lib.ListN.{length, length-replicate}
+use lib.ListN.{length, get_or, length-replicate}
+use Rattle.signer.specs.FromOne.{nth}
 use Rattle.signer.specs.Log.{is_identifier}
-use Rattle.signer.proofs.FromOneLaws.{get_none, get_some, within-out, nth-any, set_nth-index, set_nth-none, length-set_nth, nth-set-same, nth-set-other, nth-change, nth-replicate, within_low, within-high}
+use Rattle.signer.proofs.FromOneLaws.{get_none, get_some, within-out, nth-any, nth_after, set_nth-index, set_nth-none, length-set_nth, nth-set-same, nth-set-other, nth-change, nth-replicate, within_low, within-high}
 use Rattle.delivery.specs.Limits.{Limits}
 use Rattle.delivery.specs.Bus.{is_board}
 use Rattle.delivery.specs.Sets.{in_set, set_of, bits, without_board, union, minus}
@@ -25,6 +26,15 @@ pub record Whole (L : Limits) (o : Owed) : Type 0 where
 pub nobody-at : (L : Limits) (i : ℕ) → receivers_at (no_copies L) i ≡ 0
 unfolding receivers_at no_copies
 nobody-at L i = nth-replicate L.identifiers i 0
+
+-- the sets stand by speaker, and of each speaker by identifier
+pub receivers-index : (L : Limits) (o : Owed) (s i : ℕ) (d : Copies) → s < length o.speakers
+    → receivers L o (s + 1) (i + 1) ≡ get_or (get_or o.speakers s d).receivers i 0
+unfolding receivers receivers_at copies_of
+receivers-index L o s i d h =
+    let e : s + 1 - 1 ≡ s = omega arith in
+    let copies = nth-any o.speakers (s + 1) (no_copies L) d (omega arith) (omega (arith, h)) ∙ ap (λ (j : ℕ). get_or o.speakers j d) e in
+    nth_after (nth o.speakers (s + 1) (no_copies L)).receivers i 0 ∙ ap (λ (c : Copies). get_or c.receivers i 0) copies
 
 -- where nothing is owed
 copies-nothing : (L : Limits) (s : ℕ) → copies_of L (nothing_owed L) s ≡ no_copies L

@@ -1,11 +1,13 @@
-ghost use Rattle.std.specs.Prelude.{◌+◌, ◌*◌, ◌≤◌, ◌≡◌, ℕ, length};
+ghost use Rattle.std.specs.Prelude.{◌+◌, ◌*◌, ◌≤◌, ◌≡◌, length};
 ghost use Rattle.delivery.specs.Limits.{limits};
+ghost use Rattle.delivery.specs.Owed.{receivers};
+ghost use Rattle.bench.specs.Benches.{signed_by};
 ghost use Rattle.schedule.specs.Private.{Puts};
 ghost use Rattle.fenderacai.specs.Rows.{status_number, decision, board_words, boards_words, table_words, delivered_words, row};
-ghost use Rattle.fenderacai.specs.Private.{Tells, board_size, table_size, row_size};
+ghost use Rattle.fenderacai.specs.Private.{board_size, table_size, row_size};
 
 use bench::Bench;
-use delivery::{Delivered, Round};
+use delivery::{BoardSet, Delivered, Owed, Round};
 use signer::Identifier;
 use vote::{Board, Decision, Status};
 
@@ -57,6 +59,17 @@ fn decision(status: Status) -> Decision
     }
 }
 
+// Sets of boards, as words.
+fn masks(sets: &[BoardSet; Identifier::LAST as usize]) -> [u32; Identifier::LAST as usize]
+    ensures { result ≡ sets.now }
+{
+    let mut masks = [0; Identifier::LAST as usize];
+    for i in 0..Identifier::LAST as usize {
+        masks[i] = sets[i].bits() as u32;
+    }
+    masks
+}
+
 // Each of these puts some words after those that are there.
 impl Words<'_> {
     // Words as they stand.
@@ -98,18 +111,13 @@ impl Words<'_> {
         }
     }
 
-    // A table: for each speaker a word for each identifier.
-    fn table<F: Fn(u8, Identifier) -> u32>(&mut self, word: F)
-        requires calls { F.IsAlwaysCallable word }
-        requires room { self.old.length + table_size limits ≤ length self.old.out.now }
-        ensures place { self.new.length ≡ self.old.length + table_size limits }
-        ensures long { length self.new.out.now ≡ length self.old.out.now }
-        ensures words { (f : ℕ → ℕ → ℕ) → Tells limits (F.post word) f → Puts (table_words limits f) self.old.out self.old.length self.new.out self.new.length }
+    // What each board's signer signed: a log's entries stand as a row has them, so they are copied as a whole, here and below.
+    fn signed(&mut self, bench: &Bench)
+        requires { self.old.length + table_size limits ≤ length self.old.out.now }
+        ensures { Puts (table_words limits (signed_by limits bench.now)) self.old.out self.old.length self.new.out self.new.length }
     {
         for k in 0..Bench::BOARDS {
-            for i in 0..Identifier::LAST {
-                self.list(&[word(k + 1, Identifier(i + 1))]);
-            }
+            self.list(&bench.signer(k + 1).log.entries);
         }
     }
 
@@ -118,9 +126,18 @@ impl Words<'_> {
         requires { self.old.length + limits.boards * table_size limits ≤ length self.old.out.now }
         ensures { Puts (delivered_words limits bench.now) self.old.out self.old.length self.new.out self.new.length }
     {
-        for i in 0..Bench::BOARDS {
-            let k = i + 1;
-            self.table(|speaker, id| bench.delivered(k, speaker, id));
+        for k in 0..Bench::BOARDS as usize {
+            self.list(&bench.boards[k].delivered.entries);
+        }
+    }
+
+    // The boards to which copies are owed.
+    fn owed(&mut self, owed: &Owed)
+        requires { self.old.length + table_size limits ≤ length self.old.out.now }
+        ensures { Puts (table_words limits (receivers limits owed.now)) self.old.out self.old.length self.new.out self.new.length }
+    {
+        for k in 0..Bench::BOARDS as usize {
+            self.list(&masks(&owed.speakers[k].receivers));
         }
     }
 
@@ -131,8 +148,8 @@ impl Words<'_> {
     {
         self.list(&[answer as u32, bench.n as u32, bench.sound.bits() as u32]);
         self.boards(bench);
-        self.table(|speaker, id| bench.signed(speaker, id));
+        self.signed(bench);
         self.delivered(bench);
-        self.table(|speaker, id| bench.owed(speaker, id).bits() as u32);
+        self.owed(&bench.owed);
     }
 }

@@ -13,7 +13,7 @@ use lib.ListN.{length, take, drop, get_or, set, length-append}
 use Rattle.std.proofs.lemmas.Bool.Decides.{nat_tests}
 use Rattle.std.proofs.lemmas.Fmt.{length-decimal-le}
 use Rattle.std.proofs.lemmas.List.{take_more}
-use lib.Seq.{sets, length-sets, sets-eq, take-append_seam}
+use lib.Seq.{sets, length-sets, sets-eq, take-append_seam, take-add}
 use Rattle.std.specs.Prelude.{Ok, Err}
 use Rattle.std.proofs.lemmas.Bool.{cond-true}
 use Rattle.delivery.specs.Limits.{limits}
@@ -129,6 +129,16 @@ unfolding parts_to
 length-parts size zero f e = omega arith
 length-parts size (suc n) f e =
     omega (arith, length-append (parts_to n f) (f (suc n)), length-parts size n f e, e (suc n))
+
+-- and where each is the next so many of a list, they are the head of that list
+pub parts-cut : (size n : ℕ) (f : ℕ → List ℕ) (xs : List ℕ)
+    → ((k : ℕ) → k < n → f (k + 1) ≡ take size (drop (size * k) xs)) → parts_to n f ≡ take (size * n) xs
+unfolding parts_to
+parts-cut size zero f xs e = let none : size * 0 ≡ 0 = omega arith in rw none refl
+parts-cut size (suc n) f xs e =
+    let next : size * suc n ≡ size * n + size = omega arith in
+    let last : f (suc n) ≡ take size (drop (size * n) xs) = rw (← add-one n) (e n (omega arith)) in
+    rw (next, take-add (size * n) size xs, ← parts-cut size n f xs (λ k h. e k (omega (arith, h))), ← last) refl
 
 -- where the buffer is too short, it stays; where it is not, the text is written at its start
 pub buffer-short : (text buf : List ℕ) → length buf < length text → buf ≡ buffer_from text buf

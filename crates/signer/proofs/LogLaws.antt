@@ -1,11 +1,12 @@
 -- Laws of logs. Assumes nothing.
-use Prim.Native.Nat.{ℕ, ◌≤◌}
+use Prim.Native.Nat.{ℕ, ◌+◌, ◌≤◌}
 use mathlib.Core.Path.{◌≡◌}
 use native.Mathlib.Omega.{arith}
-use lib.ListN.{length}
+use lib.ListN.{length, get_or}
 use Rattle.std.proofs.lemmas.Bool.Decides.{nat_tests}
-use Rattle.signer.specs.Log.{values, value_of, entry_of}
+use Rattle.signer.specs.Log.{values, value_of, entry_of, entry_at}
 use Rattle.signer.specs.declared.log.Log.{Log}
+use Rattle.signer.proofs.FromOneLaws.{nth_after}
 
 -- an entry's value
 pub value-entry : (v : ℕ) → v ≤ values → value_of (entry_of v) ≡ v
@@ -27,6 +28,11 @@ entry-some v e = omega arith
 
 pub entry-one : (v w : ℕ) → entry_of v ≡ entry_of w → v ≡ w
 entry-one v w e = omega arith
+
+-- the entries of a log stand in the order of their identifiers
+pub entry-index : (l : Log) (i : ℕ) → entry_at l (i + 1) ≡ get_or l.entries i 0
+unfolding entry_at
+entry-index l i = nth_after l.entries i 0
 
 -- a log that has an entry for each identifier
 pub record Whole (limit : ℕ) (l : Log) : Type 0 where
