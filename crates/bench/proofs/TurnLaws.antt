@@ -3,17 +3,24 @@ use Prim.Native.Nat.{ℕ}
 use native.Mathlib.Omega.{arith}
 use mathlib.Core.Path.{◌≡◌, refl, ap}
 use mathlib.Core.Bool.{true, false}
+use lib.ListN.{length}
 use Rattle.vote.specs.declared.statement.Statement.{Statement}
 use Rattle.std.specs.Prelude.{Option, None, Some}
+use Rattle.std.proofs.lemmas.List.{set-get_or}
+use Rattle.signer.specs.Signer.{grants}
+use Rattle.signer.proofs.FromOneLaws.{nth-none, nth-index, set_nth-index, within_low, within-out}
+use Rattle.signer.proofs.SignerLaws.{sign-refused}
 use Rattle.delivery.specs.Limits.{Limits}
+use Rattle.delivery.specs.Bus.{is_board}
 use Rattle.vote.specs.Turns.{take, turn}
 use Rattle.vote.specs.declared.board.Board.{Board}
 use Rattle.vote.specs.declared.board.Status.TheVariants.{Voting}
 use Rattle.vote.specs.declared.rule.Move.TheVariants.{Waits}
 use Rattle.vote.specs.declared.turn.Turn.{Turn}
+use Rattle.vote.proofs.BoardLaws.{fresh-is}
 use Rattle.vote.proofs.TurnLaws.{turn-voting, turn-waits}
 use Rattle.vote.proofs.CallLaws.{answer-done}
-use Rattle.bench.specs.Benches.{board_at, signer_at, move_at, said_at}
+use Rattle.bench.specs.Benches.{board_at, signer_at, holds, holders, move_at, said_at}
 use Rattle.bench.specs.Table.{is_waiting, refuses, must_wait}
 use Rattle.bench.specs.Effects.{with_board_at, with_signature, with_owed, after_saying, after_turn}
 use Rattle.bench.specs.declared.bench.Bench.{Bench}
@@ -52,7 +59,25 @@ unfolding board_at after_saying with_owed with_signature
 saying-board L c k None j = refl
 saying-board L c k (Some s) j = refl
 
--- what the calls of a turn go by: row 22, and the turn that is taken
-pub ruleset waiting = (wait-waits, wait-refuses, wait-neither)
+-- a board that is voting is one of the bench
+pub voting-board : (L : Limits) (c : Bench) (k : ℕ) → length c.boards ≡ L.boards → (board_at L c k).status ≡ Voting
+    → is_board L k ≡ true
+unfolding board_at
+voting-board L c k size v = grind (arith, nth-none, within-out, fresh-is)
 
-pub ruleset turn_taken = (saying-board, turn-made)
+-- a signer that does not sign leaves the bench as it was
+pub unsigned-same : (L : Limits) (c : Bench) (k i v : ℕ) → is_board L k ≡ true
+    → grants L.identifiers (signer_at L c k) i ≡ false
+    → with_signature L c k i v ≡ c
+unfolding with_signature signer_at
+unsigned-same L c k i v b g =
+    let low = within_low L.boards k b in
+    grind (arith, sign-refused, set_nth-index, nth-index, set-get_or, g)
+
+-- nor does a signature change who holds what
+pub signing-holders : (L : Limits) (c : Bench) (k i v s j : ℕ) → holders L (with_signature L c k i v) s j ≡ holders L c s j
+unfolding holders holds board_at with_signature
+signing-holders L c k i v s j = refl
+
+-- what a turn goes by: row 22, and the turn that is taken
+pub ruleset turns = (wait-waits, wait-refuses, wait-neither, saying-board, turn-made)

@@ -1,6 +1,4 @@
-ghost use Rattle.std.specs.Prelude.{◌≡◌, Ok, Err, slice_index, if◌then◌else◌};
-ghost use Rattle.bench.specs.Table.{kind_row};
-ghost use Rattle.bench.specs.declared.answer.Refusal.TheVariants.{NoKind};
+ghost use Rattle.std.specs.Prelude.{◌≡◌, slice_index};
 ghost use Rattle.bench.specs.Events.{kind_number, kind_of, uses_other, uses_id, uses_value, event_from};
 
 use crate::answer::Refusal;
@@ -48,6 +46,21 @@ impl Model for Known {
     ghost Value = { Event };
 
     ghost view = { λ e. record { kind = kind_number e.kind; a = e.a; b = e.b; id = e.id; value = e.value } };
+}
+
+impl Known {
+    // An event, as one of this kind; the number of its own is not read.
+    pub(crate) fn of(kind: Kind, e: Event) -> Known
+        ensures { result ≡ record e { kind = kind_number kind } }
+    {
+        Known {
+            kind,
+            a: e.a,
+            b: e.b,
+            id: e.id,
+            value: e.value,
+        }
+    }
 }
 
 // By hand, since no derive makes an enum of a number.
@@ -131,19 +144,5 @@ impl Event {
             id: byte(bytes, 3),
             value: u16::from_be_bytes([byte(bytes, 4), byte(bytes, 5)]),
         }
-    }
-
-    // With its kind told; refused where that is none.
-    #[tactic(auto, using(crate::proofs::TableLaws::told_kinds))]
-    pub(crate) fn known(self) -> Result<Known, Refusal>
-        ensures { result ≡ (if kind_row self then Err NoKind else Ok self) }
-    {
-        Ok(Known {
-            kind: Kind::try_from(self.kind)?,
-            a: self.a,
-            b: self.b,
-            id: self.id,
-            value: self.value,
-        })
     }
 }
