@@ -50,6 +50,7 @@ impl Known {
 impl Bench {
     // Changes board k; nothing changes where the number is no board's. By index, here and for a signer, for the
     // reason that stands at `from_one::set_nth`.
+    #[inline(always)]
     #[tactic(auto, using(crate::proofs::BenchLaws::places), unfolding(crate::specs::Benches::board_at, crate::specs::Effects::with_board_at))]
     pub(crate) fn change<F: FnOnce(&mut Board)>(&mut self, k: u8, change: F)
         requires { F.IsAlwaysCallable change }
@@ -60,8 +61,9 @@ impl Bench {
         }
     }
 
-    // Board k's signer is asked to sign a value under an identifier, and says whether it signed; nobody is where the number is
-    // no board's.
+    // Board k's signer is asked to sign a value under an identifier, and says whether it signed; nobody is asked where the
+    // number is no board's.
+    #[inline(always)]
     #[tactic(auto, using(crate::proofs::BenchLaws::asked), unfolding(crate::specs::Effects::with_signature, crate::specs::Benches::signer_at))]
     pub(crate) fn sign(&mut self, k: u8, id: Identifier, value: u16) -> bool
         ensures signed { result ≡ (is_board limits k && grants limits.identifiers (signer_at limits self.old k) id.0) }
@@ -71,6 +73,7 @@ impl Bench {
     }
 
     // Board k delivers a statement, and echoes it.
+    #[inline(always)]
     fn hear(&mut self, k: u8, s: Statement)
         ensures { self.new ≡ after_hearing limits self.old k s }
     {
@@ -82,6 +85,7 @@ impl Bench {
 
     // What an event does that none of rows 10 to 21 applies to; row 22 refuses a turn. What is announced to a board it has
     // counted its ballots for in row 21, so it decides that, and does not count them again.
+    #[inline(always)]
     #[tactic(auto, unfolding(crate::specs::Effects::effect_of, crate::specs::Table::turn_row, crate::specs::Events::kind_number, crate::specs::Table::first_of))]
     fn effect(&mut self, e: &Known) -> Result<(), Refusal>
         requires turn { e.now.kind ≡ turning → IsVoting limits self.old e.now.a }
@@ -108,6 +112,7 @@ impl Bench {
     }
 
     // One event, taken as one of this kind: the rows, and then what it does.
+    #[inline(always)]
     #[tactic(auto, using(crate::proofs::RowLaws::rows_passed), unfolding(crate::specs::Effects::step_of, crate::specs::Answers::is_accepted))]
     fn take(&mut self, kind: Kind, e: Event) -> Result<(), Refusal>
         ensures answer { result ≡ (step_of limits self.old (record e { kind = kind_number kind })).answer }
@@ -121,6 +126,7 @@ impl Bench {
     /// One event, in place: its answer is handed back, and the bench is changed if it is accepted. A refused one leaves the bench
     /// as it is. Whoever keeps a bench in its place goes by this; nothing is copied. Each kind is handed on by its name, so that
     /// no row about other kinds is looked at.
+    #[inline(always)]
     #[tactic(auto, using(crate::proofs::TableLaws::told_kinds), unfolding(crate::specs::Effects::step_of, crate::specs::Answers::is_accepted))]
     pub fn step(&mut self, e: Event) -> Result<(), Refusal>
         ensures answer { result ≡ (step_of limits self.old e).answer }

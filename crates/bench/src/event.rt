@@ -50,6 +50,7 @@ impl Model for Known {
 
 impl Known {
     // An event, as one of this kind; the number of its own is not read.
+    #[inline(always)]
     pub(crate) fn of(kind: Kind, e: Event) -> Known
         ensures { result ≡ record e { kind = kind_number kind } }
     {
@@ -69,6 +70,7 @@ impl TryFrom<u8> for Kind {
 
     ghost try_from_gives = { λ number r. r ≡ kind_of number };
 
+    #[inline(always)]
     #[tactic(auto, unfolding(crate::specs::Events::kind_of))]
     fn try_from(number: u8) -> Result<Kind, Refusal> {
         match number {
@@ -94,6 +96,7 @@ impl Kind {
     }
 
     // Whether it names a second board.
+    #[inline(always)]
     #[tactic(auto, unfolding(crate::specs::Events::kind_number, crate::specs::Events::uses_other))]
     pub(crate) fn uses_other(self) -> bool
         ensures { result ≡ uses_other (kind_number self) }
@@ -105,6 +108,7 @@ impl Kind {
     }
 
     // Whether it has an identifier or a round.
+    #[inline(always)]
     #[tactic(auto, unfolding(crate::specs::Events::kind_number, crate::specs::Events::uses_id))]
     pub(crate) fn uses_id(self) -> bool
         ensures { result ≡ uses_id (kind_number self) }
@@ -113,6 +117,7 @@ impl Kind {
     }
 
     // Whether it has a value.
+    #[inline(always)]
     #[tactic(auto, unfolding(crate::specs::Events::kind_number, crate::specs::Events::uses_value, crate::specs::Events::uses_id))]
     pub(crate) fn uses_value(self) -> bool
         ensures { result ≡ uses_value (kind_number self) }

@@ -47,6 +47,7 @@ impl Bench {
     }
 
     // Nothing has happened yet on this bench.
+    #[inline(always)]
     #[tactic(auto, unfolding(crate::specs::Setups::bench_of))]
     fn of(n: u8, sound: BoardSet) -> Bench
         ensures { result ≡ bench_of limits n sound }
@@ -62,6 +63,7 @@ impl Bench {
 
     // How many boards there are, which of them are sound, and the answer to the call for such a bench. Where it is refused
     // there is one, which is sound, since a refused call gives a bench (a rule of the project).
+    #[inline(always)]
     #[tactic(auto, using(crate::proofs::MakingLaws::bus_size), unfolding(crate::specs::Setups::fresh_answer, crate::specs::Setups::setup_by))]
     fn setup(n: u8, marks: &[u8; Bench::BOARDS as usize]) -> (u8, BoardSet, Result<(), SetupFault>)
         ensures count { result.0 ≡ (setup limits n marks.now).n }

@@ -9,6 +9,7 @@ use delivery::{Round, bus};
 use signer::{Identifier, Log, from_one};
 
 // A row of document 01's table: the event is refused so where it applies.
+#[inline(always)]
 fn refuse_if(applies: bool, refusal: Refusal) -> Result<(), Refusal>
     ensures { result ≡ (if applies then Err refusal else Ok tt) }
 {
@@ -18,6 +19,7 @@ fn refuse_if(applies: bool, refusal: Refusal) -> Result<(), Refusal>
 // What the table asks of the event alone.
 impl Known {
     // Row 12: b is not used, and not 0.
+    #[inline(always)]
     #[tactic(auto, unfolding(crate::specs::Table::wrong_other))]
     fn wrong_other(&self) -> bool
         ensures { result ≡ wrong_other self.now }
@@ -26,6 +28,7 @@ impl Known {
     }
 
     // Row 12: the identifier or round is none, or it is not used, and not 0.
+    #[inline(always)]
     #[tactic(auto, unfolding(crate::specs::Table::wrong_id, crate::specs::Events::uses_id, crate::specs::Events::kind_number))]
     fn wrong_id(&self) -> bool
         ensures { result ≡ wrong_id limits self.now }
@@ -38,6 +41,7 @@ impl Known {
     }
 
     // Row 12: the value is the blank, and no blank may stand there, or it is not used, and not 0.
+    #[inline(always)]
     #[tactic(auto, unfolding(crate::specs::Table::wrong_value, crate::specs::Events::uses_value, crate::specs::Events::uses_id, crate::specs::Events::kind_number))]
     fn wrong_value(&self) -> bool
         ensures { result ≡ wrong_value self.now }
@@ -49,6 +53,7 @@ impl Known {
     }
 
     // Row 12: a field other than the boards is wrong.
+    #[inline(always)]
     #[tactic(auto, unfolding(crate::specs::Table::fields_row))]
     fn fields_row(&self) -> bool
         ensures { result ≡ fields_row limits self.now }
@@ -57,6 +62,7 @@ impl Known {
     }
 
     // Row 14: an announcement, suspicion or trust of a board about itself.
+    #[inline(always)]
     #[tactic(auto, unfolding(crate::specs::Table::pair_row, crate::specs::Events::kind_number))]
     fn pair_row(&self) -> bool
         ensures { result ≡ pair_row self.now }
@@ -68,6 +74,7 @@ impl Known {
 // What it asks of the bench.
 impl Bench {
     // Row 11: a, or b where it is used, is no board of the bench.
+    #[inline(always)]
     #[tactic(auto, unfolding(crate::specs::Table::boards_row))]
     fn boards_row(&self, e: &Known) -> bool
         ensures { result ≡ boards_row self.now e.now }
@@ -76,6 +83,7 @@ impl Bench {
     }
 
     // Row 13: a sound board's signer is asked, or another event is for a faulty board.
+    #[inline(always)]
     #[tactic(auto, unfolding(crate::specs::Table::mark_row, crate::specs::Events::kind_number))]
     fn mark_row(&self, e: &Known) -> bool
         ensures { result ≡ mark_row self.now e.now }
@@ -88,6 +96,7 @@ impl Bench {
 
     // Row 15: a proposal to a board that has started, a turn of or an announcement to one that has not. Here and in row 16
     // there is an arm for each kind, so `matches!` would be no plainer.
+    #[inline(always)]
     #[tactic(auto, unfolding(crate::specs::Table::start_row, crate::specs::Events::kind_number))]
     fn start_row(&self, e: &Known) -> bool
         ensures { result ≡ start_row limits self.now e.now }
@@ -100,6 +109,7 @@ impl Bench {
     }
 
     // Row 16: a turn of a board that is decided or spent, an announcement to one that is decided.
+    #[inline(always)]
     #[tactic(auto, unfolding(crate::specs::Table::end_row, crate::specs::Events::kind_number))]
     fn end_row(&self, e: &Known) -> bool
         ensures { result ≡ end_row limits self.now e.now }
@@ -113,6 +123,7 @@ impl Bench {
 
     // Row 17: b has not signed what is to be delivered. Rows 17 to 21 are about one kind each, which is a premise beside the
     // others, so a `match` would be no plainer.
+    #[inline(always)]
     #[tactic(auto, unfolding(crate::specs::Table::signed_row, crate::specs::Events::kind_number))]
     fn signed_row(&self, e: &Known) -> bool
         ensures { result ≡ signed_row limits self.now e.now }
@@ -121,6 +132,7 @@ impl Bench {
     }
 
     // Row 18, named for the signer's `last`: a's signer has signed under this identifier or a higher one.
+    #[inline(always)]
     #[tactic(auto, unfolding(crate::specs::Table::last_row, crate::specs::Events::kind_number))]
     fn last_row(&self, e: &Known) -> bool
         ensures { result ≡ last_row limits self.now e.now }
@@ -129,6 +141,7 @@ impl Bench {
     }
 
     // Row 19: a has delivered b's statement under this identifier.
+    #[inline(always)]
     #[tactic(auto, unfolding(crate::specs::Table::delivered_row, crate::specs::Events::kind_number))]
     fn delivered_row(&self, e: &Known) -> bool
         ensures { result ≡ delivered_row limits self.now e.now }
@@ -137,6 +150,7 @@ impl Bench {
     }
 
     // Row 20: the announcer is sound, and has not decided so.
+    #[inline(always)]
     #[tactic(auto, unfolding(crate::specs::Table::announcer_row, crate::specs::Events::kind_number))]
     fn announcer_row(&self, e: &Known) -> bool
         ensures { result ≡ announcer_row limits self.now e.now }
@@ -147,6 +161,7 @@ impl Bench {
     }
 
     // Row 21: a accepts too few ballots for what is announced.
+    #[inline(always)]
     #[tactic(auto, unfolding(crate::specs::Table::ballots_row, crate::specs::Events::kind_number))]
     fn ballots_row(&self, e: &Known) -> bool
         ensures { result ≡ ballots_row limits self.now e.now }
@@ -158,6 +173,7 @@ impl Bench {
 
     // Rows 11 to 21, the first that applies. Row 10, that the kind is none, is told by `Kind::try_from`; row 22, which is about
     // what comes of a turn, by `turn`.
+    #[inline(always)]
     #[tactic(auto, unfolding(crate::specs::Table::first_of))]
     pub(crate) fn check_rows(&self, e: &Known) -> Result<(), Refusal>
         ensures { result ≡ first_of (event_rows limits self.now e.now ++ state_rows limits self.now e.now) }

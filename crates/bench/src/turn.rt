@@ -12,18 +12,17 @@ use vote::Move;
 impl Bench {
     // Board k, which is voting, takes its turn. Row 22 stops it: it waits, or its signer refuses what it says, and nothing
     // changes. Else its signer has signed that, copies become owed, and it makes its move.
-    #[tactic(auto, using(crate::proofs::TurnLaws::turns))]
+    #[inline(always)]
+    #[tactic(auto, using(crate::proofs::TurnLaws::voting_place))]
     pub(crate) fn turn(&mut self, k: u8) -> Result<(), Refusal>
         requires { IsVoting limits self.old k }
         ensures answer { result ≡ (if must_wait limits self.old k then Err MustWait else Ok tt) }
         ensures ok { OnOk result (self.new ≡ after_turn limits self.old k) }
         ensures err { OnErr result (self.new ≡ self.old) }
     {
-        let n = self.n;
-        let (step, said) = self.ask(k, |board| {
-            let step = board.next_move(n, k);
-            (step, step.said(k, board.position.round))
-        });
+        let board = &self.boards[k as usize - 1];
+        let step = board.next_move(self.n, k);
+        let said = step.said(k, board.position.round);
         if step == Move::Waits {
             return Err(Refusal::MustWait);
         }
