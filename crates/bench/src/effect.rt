@@ -63,7 +63,6 @@ impl Bench {
 
     // Board k's signer is asked to sign a value under an identifier, and says whether it signed; nobody is asked where the
     // number is no board's.
-    #[inline(always)]
     #[tactic(auto, using(crate::proofs::BenchLaws::asked), unfolding(crate::specs::Effects::with_signature, crate::specs::Benches::signer_at))]
     pub(crate) fn sign(&mut self, k: u8, id: Identifier, value: u16) -> bool
         ensures signed { result ≡ (is_board limits k && grants limits.identifiers (signer_at limits self.old k) id.0) }
@@ -73,7 +72,6 @@ impl Bench {
     }
 
     // Board k delivers a statement, and echoes it.
-    #[inline(always)]
     fn hear(&mut self, k: u8, s: Statement)
         ensures { self.new ≡ after_hearing limits self.old k s }
     {

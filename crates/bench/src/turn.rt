@@ -12,7 +12,6 @@ use vote::Move;
 impl Bench {
     // Board k, which is voting, takes its turn. Row 22 stops it: it waits, or its signer refuses what it says, and nothing
     // changes. Else its signer has signed that, copies become owed, and it makes its move.
-    #[inline(always)]
     #[tactic(auto, using(crate::proofs::TurnLaws::voting_place))]
     pub(crate) fn turn(&mut self, k: u8) -> Result<(), Refusal>
         requires { IsVoting limits self.old k }
