@@ -6,6 +6,7 @@ use lib.ListN.{length, get_or}
 use native.Mathlib.Omega.{arith}
 use Rattle.signer.proofs.FromOneLaws.{nth-any, set_nth-index, set_nth-none, within_low, within-high, within-out, nth-replicate}
 use Rattle.signer.specs.Log.{entry_at}
+use Rattle.signer.proofs.SignerLaws.{sign-answer}
 use Rattle.signer.specs.Signer.{fresh_signer}
 use Rattle.delivery.specs.Limits.{Limits}
 use Rattle.delivery.specs.Delivered.{heard}
@@ -17,6 +18,9 @@ use Rattle.bench.specs.declared.bench.Bench.{Bench}
 
 -- a board, or a signer, changed in its place
 pub ruleset places = (set_nth-none, set_nth-index, nth-any, within-high, within_low, within-out)
+
+-- and a signer that is asked says whether it granted what it was asked for
+pub ruleset asked = (set_nth-none, set_nth-index, nth-any, within-high, within_low, within-out, sign-answer)
 
 -- whether the board at index k has delivered a statement
 pub holds-at : (L : Limits) (c : Bench) (s i k : ℕ) (d : Board) → k < length c.boards

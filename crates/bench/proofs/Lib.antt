@@ -22,6 +22,7 @@ pub mod ViewLaws
 pub mod ReplayLaws
 pub mod TellsLaws
 pub mod AcceptedLaws
+pub mod RowLaws
 pub mod EffectLaws
 pub mod SpreadLaws
 pub mod FitLaws

@@ -13,7 +13,6 @@ use Rattle.signer.specs.declared.signer.Signer.{Signer}
 use Rattle.signer.proofs.SignerLaws.{fresh-last, fresh-entry, fresh-wellformed}
 use Rattle.delivery.specs.Limits.{Limits}
 use Rattle.delivery.specs.Sets.{in_set}
-use Rattle.delivery.specs.Delivered.{heard}
 use Rattle.delivery.proofs.SetLaws.{in-none}
 use Rattle.delivery.proofs.DeliveredLaws.{heard-nothing}
 use Rattle.delivery.proofs.OwedLaws.{nothing-whole, owed-nothing}

@@ -1,19 +1,25 @@
 -- Laws of a turn on a bench: of a board that is voting, by what its rule has it do. Assumes nothing.
-use Prim.Native.Nat.{ℕ}
+use Prim.Native.Nat.{ℕ, ◌-◌, ◌≤◌}
 use native.Mathlib.Omega.{arith}
 use mathlib.Core.Path.{◌≡◌, refl, ap}
 use mathlib.Core.Bool.{true, false}
+use lib.ListN.{length, get_or}
 use Rattle.vote.specs.declared.statement.Statement.{Statement}
 use Rattle.std.specs.Prelude.{Option, None, Some}
+use Rattle.std.proofs.lemmas.List.{set-get_or}
+use Rattle.signer.specs.Signer.{grants}
+use Rattle.signer.proofs.FromOneLaws.{nth-none, nth-any, nth-index, set_nth-index}
+use Rattle.signer.proofs.SignerLaws.{sign-refused}
 use Rattle.delivery.specs.Limits.{Limits}
 use Rattle.vote.specs.Turns.{take, turn}
 use Rattle.vote.specs.declared.board.Board.{Board}
 use Rattle.vote.specs.declared.board.Status.TheVariants.{Voting}
 use Rattle.vote.specs.declared.rule.Move.TheVariants.{Waits}
 use Rattle.vote.specs.declared.turn.Turn.{Turn}
+use Rattle.vote.proofs.BoardLaws.{fresh-is}
 use Rattle.vote.proofs.TurnLaws.{turn-voting, turn-waits}
 use Rattle.vote.proofs.CallLaws.{answer-done}
-use Rattle.bench.specs.Benches.{board_at, signer_at, move_at, said_at}
+use Rattle.bench.specs.Benches.{board_at, signer_at, holds, holders, move_at, said_at}
 use Rattle.bench.specs.Table.{is_waiting, refuses, must_wait}
 use Rattle.bench.specs.Effects.{with_board_at, with_signature, with_owed, after_saying, after_turn}
 use Rattle.bench.specs.declared.bench.Bench.{Bench}
@@ -52,7 +58,30 @@ unfolding board_at after_saying with_owed with_signature
 saying-board L c k None j = refl
 saying-board L c k (Some s) j = refl
 
--- what the calls of a turn go by: row 22, and the turn that is taken
-pub ruleset waiting = (wait-waits, wait-refuses, wait-neither)
+-- a board that is voting has a place on the bench
+module _ (L : Limits) (c : Bench) (k : ℕ) (v : (board_at L c k).status ≡ Voting) where
+  pub voting-low : 1 ≤ k
+  unfolding board_at
+  voting-low = grind (arith, v, nth-none, fresh-is)
 
-pub ruleset turn_taken = (saying-board, turn-made)
+  pub voting-high : k ≤ length c.boards
+  unfolding board_at
+  voting-high = grind (arith, v, nth-none, fresh-is)
+
+  pub voting-at : (d : Board) → get_or c.boards (k - 1) d ≡ board_at L c k
+  unfolding board_at
+  voting-at d = let low = voting-low in let high = voting-high in grind (arith, nth-any)
+
+-- a signer that does not sign leaves the bench as it was
+pub unsigned-same : (L : Limits) (c : Bench) (k i v : ℕ) → 1 ≤ k → grants L.identifiers (signer_at L c k) i ≡ false
+    → with_signature L c k i v ≡ c
+unfolding with_signature signer_at
+unsigned-same L c k i v low g = grind (arith, sign-refused, set_nth-index, nth-index, set-get_or, g)
+
+-- nor does a signature change who holds what
+pub signing-holders : (L : Limits) (c : Bench) (k i v s j : ℕ) → holders L (with_signature L c k i v) s j ≡ holders L c s j
+unfolding holders holds board_at with_signature
+signing-holders L c k i v s j = refl
+
+-- what a turn goes by: its board's place
+pub ruleset voting_place = (voting-low, voting-high)

@@ -42,8 +42,7 @@ impl Bench {
         from_one::nth(&self.boards, k, Board::fresh())
     }
 
-    // Board k's signer; a fresh one where the number is no board's. It is copied, also where one field of it is read: it is a
-    // seventh of a board, and asking it as a board is asked would be a twin.
+    // Board k's signer; a fresh one where the number is no board's. What is read of a signer within asks it where it stands.
     #[tactic(auto, unfolding(crate::specs::Benches::signer_at))]
     pub fn signer(&self, k: u8) -> Signer
         ensures { result ≡ signer_at limits self.now k }
@@ -52,6 +51,7 @@ impl Bench {
     }
 
     // Asks board k, where it stands; a fresh one where the number is no board's.
+    #[inline(always)]
     #[tactic(auto, using(signer::proofs::FromOneLaws::get_some, signer::proofs::FromOneLaws::get_none), unfolding(crate::specs::Benches::board_at))]
     pub(crate) fn ask<R, F: FnOnce(&Board) -> R>(&self, k: u8, question: F) -> R
         requires { F.IsAlwaysCallable question }
@@ -59,12 +59,36 @@ impl Bench {
     {
         match from_one::get(&self.boards, k) {
             Some(board) => question(board),
-            None => question(&Board::fresh()),
+            None => Bench::ask_fresh(question),
+        }
+    }
+
+    // Asks a fresh board. That takes the room of a board, so it is no part of a caller.
+    #[cold]
+    #[inline(never)]
+    fn ask_fresh<R, F: FnOnce(&Board) -> R>(question: F) -> R
+        requires { F.IsAlwaysCallable question }
+        ensures { FnOnceReturnsAt F.FnOnce question (fresh_board limits) result }
+    {
+        question(&Board::fresh())
+    }
+
+    // Asks board k's signer in the same way.
+    #[inline(always)]
+    #[tactic(auto, using(signer::proofs::FromOneLaws::get_some, signer::proofs::FromOneLaws::get_none), unfolding(crate::specs::Benches::signer_at))]
+    pub(crate) fn ask_signer<R, F: FnOnce(&Signer) -> R>(&self, k: u8, question: F) -> R
+        requires { F.IsAlwaysCallable question }
+        ensures { FnOnceReturnsAt F.FnOnce question (signer_at limits self.now k) result }
+    {
+        match from_one::get(&self.signers, k) {
+            Some(signer) => question(signer),
+            None => question(&Signer::fresh()),
         }
     }
 
     // What board k has delivered from a speaker under an identifier, as a log's entry; these two stay apart here and below, as
     // in `Delivered`.
+    #[inline(always)]
     pub fn delivered(&self, k: u8, speaker: u8, id: Identifier) -> u32
         ensures { result ≡ heard_by limits self.now k speaker id.0 }
     {
@@ -72,11 +96,12 @@ impl Bench {
     }
 
     // What board k's signer has signed under an identifier, as a log's entry.
+    #[inline(always)]
     #[tactic(auto, unfolding(crate::specs::Benches::signed_by))]
     pub fn signed(&self, k: u8, id: Identifier) -> u32
         ensures { result ≡ signed_by limits self.now k id.0 }
     {
-        self.signer(k).entry(id)
+        self.ask_signer(k, |signer| signer.entry(id))
     }
 
     // The boards to which a copy of a speaker's statement is owed.

@@ -1,20 +1,20 @@
-ghost use Rattle.std.specs.Prelude.{◌≡◌, Ok, Err, OnOk, OnErr, if◌then◌else◌};
+ghost use Rattle.std.specs.Prelude.{◌≡◌, ◌&&◌, OnOk, OnErr};
 ghost use Rattle.std.specs.Fn.{FnOnceReturnsAtMut};
+ghost use Rattle.signer.specs.Signer.{grants};
+ghost use Rattle.delivery.specs.Bus.{is_board};
 ghost use Rattle.delivery.specs.Limits.{limits};
-ghost use Rattle.vote.specs.Turns.{take};
-ghost use Rattle.bench.specs.Benches.{board_at};
-ghost use Rattle.bench.specs.Events.{turning};
-ghost use Rattle.bench.specs.declared.answer.Refusal.TheVariants.{MustWait};
-ghost use Rattle.bench.specs.Table.{must_wait, turn_rows, first_of};
-ghost use Rattle.bench.specs.Effects.{with_board_at, with_signature, after_saying, after_turn, brought, after_hearing, effect_of, step_of};
-ghost use Rattle.bench.specs.Private.{IsVoting, announced};
+ghost use Rattle.bench.specs.Benches.{board_at, signer_at};
+ghost use Rattle.bench.specs.Events.{turning, announcing, kind_number};
+ghost use Rattle.bench.specs.Table.{turn_rows, first_of};
+ghost use Rattle.bench.specs.Effects.{with_board_at, with_signature, brought, after_hearing, effect_of, step_of};
+ghost use Rattle.bench.specs.Private.{IsVoting, IsConvinced, announced};
 
 use crate::answer::Refusal;
 use crate::bench::Bench;
 use crate::event::{Event, Kind, Known};
 use delivery::{Delivered, Round};
 use signer::Identifier;
-use vote::{Board, Decision, Move, Statement};
+use vote::{Board, Decision, Statement, Status};
 
 // What comes of an event: the bench afterwards, and the answer. It is no `Result` of a bench, since a refused event leaves
 // one too.
@@ -50,8 +50,9 @@ impl Known {
 impl Bench {
     // Changes board k; nothing changes where the number is no board's. By index, here and for a signer, for the
     // reason that stands at `from_one::set_nth`.
+    #[inline(always)]
     #[tactic(auto, using(crate::proofs::BenchLaws::places), unfolding(crate::specs::Benches::board_at, crate::specs::Effects::with_board_at))]
-    fn change<F: FnOnce(&mut Board)>(&mut self, k: u8, change: F)
+    pub(crate) fn change<F: FnOnce(&mut Board)>(&mut self, k: u8, change: F)
         requires { F.IsAlwaysCallable change }
         ensures { (f : Board → Board) → ((b : Board) → FnOnceReturnsAtMut F.FnOnce change (board_at limits self.old k) tt b → b ≡ f (board_at limits self.old k)) → self.new ≡ with_board_at self.old k (f (board_at limits self.old k)) }
     {
@@ -60,47 +61,14 @@ impl Bench {
         }
     }
 
-    // Board k's signer is asked to sign a value under an identifier; nobody is where the number is no board's.
-    #[tactic(auto, using(crate::proofs::BenchLaws::places), unfolding(crate::specs::Effects::with_signature, crate::specs::Benches::signer_at))]
-    fn sign(&mut self, k: u8, id: Identifier, value: u16)
-        ensures { self.new ≡ with_signature limits self.old k id.0 value }
+    // Board k's signer is asked to sign a value under an identifier, and says whether it signed; nobody is asked where the
+    // number is no board's.
+    #[tactic(auto, using(crate::proofs::BenchLaws::asked), unfolding(crate::specs::Effects::with_signature, crate::specs::Benches::signer_at))]
+    pub(crate) fn sign(&mut self, k: u8, id: Identifier, value: u16) -> bool
+        ensures signed { result ≡ (is_board limits k && grants limits.identifiers (signer_at limits self.old k) id.0) }
+        ensures bench { self.new ≡ with_signature limits self.old k id.0 value }
     {
-        if Delivered::is_board(k) {
-            self.signers[k as usize - 1].sign(id, value);
-        }
-    }
-
-    // Board k says this in its turn: its signer signs it, and copies become owed.
-    #[tactic(auto, unfolding(crate::specs::Benches::signer_at, crate::specs::Effects::after_saying, crate::specs::Effects::with_owed, crate::specs::Effects::with_signature))]
-    fn say(&mut self, k: u8, said: Option<Statement>)
-        ensures { self.new ≡ after_saying limits self.old k said }
-    {
-        if let Some(s) = said {
-            let have = self.holders(k, s.id);
-            self.owed.record_signing(k, s.id, self.sound, have);
-            self.sign(k, s.id, s.value);
-        }
-    }
-
-    // Board k, which is voting, makes this move.
-    fn make(&mut self, k: u8, step: Move)
-        ensures { self.new ≡ with_board_at self.old k (take limits k (board_at limits self.old k) step).board }
-    {
-        self.change(k, |board| board.make(k, step));
-    }
-
-    // Board k, which is voting, takes its turn; nothing changes where it waits, or its signer refuses what it says.
-    #[tactic(auto, using(crate::proofs::TurnLaws::turn_taken))]
-    fn turn(&mut self, k: u8) -> Result<(), Refusal>
-        requires { IsVoting limits self.old k }
-        ensures answer { result ≡ (if must_wait limits self.old k then Err MustWait else Ok tt) }
-        ensures ok { OnOk result (self.new ≡ after_turn limits self.old k) }
-        ensures err { OnErr result (self.new ≡ self.old) }
-    {
-        let (step, said) = self.next_move(k)?;
-        self.say(k, said);
-        self.make(k, step);
-        Ok(())
+        Delivered::is_board(k) && self.signers[k as usize - 1].sign(id, value)
     }
 
     // Board k delivers a statement, and echoes it.
@@ -113,10 +81,13 @@ impl Bench {
         self.change(k, |board| board.deliver(s));
     }
 
-    // What an event does that none of rows 10 to 21 applies to; row 22 refuses a turn.
+    // What an event does that none of rows 10 to 21 applies to; row 22 refuses a turn. What is announced to a board it has
+    // counted its ballots for in row 21, so it decides that, and does not count them again.
+    #[inline(always)]
     #[tactic(auto, unfolding(crate::specs::Effects::effect_of, crate::specs::Table::turn_row, crate::specs::Events::kind_number, crate::specs::Table::first_of))]
     fn effect(&mut self, e: &Known) -> Result<(), Refusal>
-        requires { e.now.kind ≡ turning → IsVoting limits self.old e.now.a }
+        requires turn { e.now.kind ≡ turning → IsVoting limits self.old e.now.a }
+        requires announcement { e.now.kind ≡ announcing → IsConvinced limits self.old e.now }
         ensures answer { result ≡ first_of (turn_rows limits self.old e.now) }
         ensures ok { OnOk result (self.new ≡ effect_of limits self.old e.now) }
         ensures err { OnErr result (self.new ≡ self.old) }
@@ -125,26 +96,49 @@ impl Bench {
             Kind::Propose => self.change(e.a, |board| board.propose(e.value)),
             Kind::Turn => self.turn(e.a)?,
             Kind::Deliver => self.hear(e.a, e.brought()),
-            Kind::Announce => {
-                let n = self.n;
-                self.change(e.a, |board| board.announce(n, e.announced()));
-            }
+            Kind::Announce => self.change(
+                e.a,
+                |board| board.status = Status::Decided(e.announced()),
+            ),
             Kind::Suspect => self.change(e.a, |board| board.suspect(e.b)),
             Kind::Trust => self.change(e.a, |board| board.trust(e.b)),
-            Kind::Sign => self.sign(e.a, Identifier(e.id), e.value),
+            Kind::Sign => {
+                self.sign(e.a, Identifier(e.id), e.value);
+            }
         }
         Ok(())
     }
 
+    // One event, taken as one of this kind: the rows, and then what it does.
+    #[inline(always)]
+    #[tactic(auto, using(crate::proofs::RowLaws::rows_passed), unfolding(crate::specs::Effects::step_of, crate::specs::Answers::is_accepted))]
+    fn take(&mut self, kind: Kind, e: Event) -> Result<(), Refusal>
+        ensures answer { result ≡ (step_of limits self.old (record e { kind = kind_number kind })).answer }
+        ensures bench { self.new ≡ (step_of limits self.old (record e { kind = kind_number kind })).bench }
+    {
+        let known = Known::of(kind, e);
+        self.check_rows(&known)?;
+        self.effect(&known)
+    }
+
     /// One event, in place: its answer is handed back, and the bench is changed if it is accepted. A refused one leaves the bench
-    /// as it is. Whoever keeps a bench in its place goes by this; nothing is copied.
-    #[tactic(auto, unfolding(crate::specs::Effects::step_of, crate::specs::Answers::is_accepted))]
+    /// as it is. Whoever keeps a bench in its place goes by this; nothing is copied. Each kind is handed on by its name, so that
+    /// no row about other kinds is looked at.
+    #[inline(always)]
+    #[tactic(auto, using(crate::proofs::TableLaws::told_kinds), unfolding(crate::specs::Effects::step_of, crate::specs::Answers::is_accepted))]
     pub fn step(&mut self, e: Event) -> Result<(), Refusal>
         ensures answer { result ≡ (step_of limits self.old e).answer }
         ensures bench { self.new ≡ (step_of limits self.old e).bench }
     {
-        let known = self.check_rows(e)?;
-        self.effect(&known)
+        match Kind::try_from(e.kind)? {
+            Kind::Propose => self.take(Kind::Propose, e),
+            Kind::Turn => self.take(Kind::Turn, e),
+            Kind::Deliver => self.take(Kind::Deliver, e),
+            Kind::Announce => self.take(Kind::Announce, e),
+            Kind::Suspect => self.take(Kind::Suspect, e),
+            Kind::Trust => self.take(Kind::Trust, e),
+            Kind::Sign => self.take(Kind::Sign, e),
+        }
     }
 
     // One event, by value, as document 01 names it; what is played within goes by `step`.

@@ -1,6 +1,4 @@
-ghost use Rattle.std.specs.Prelude.{◌≡◌, Ok, Err, slice_index, if◌then◌else◌};
-ghost use Rattle.bench.specs.Table.{kind_row};
-ghost use Rattle.bench.specs.declared.answer.Refusal.TheVariants.{NoKind};
+ghost use Rattle.std.specs.Prelude.{◌≡◌, slice_index};
 ghost use Rattle.bench.specs.Events.{kind_number, kind_of, uses_other, uses_id, uses_value, event_from};
 
 use crate::answer::Refusal;
@@ -50,12 +48,29 @@ impl Model for Known {
     ghost view = { λ e. record { kind = kind_number e.kind; a = e.a; b = e.b; id = e.id; value = e.value } };
 }
 
+impl Known {
+    // An event, as one of this kind; the number of its own is not read.
+    #[inline(always)]
+    pub(crate) fn of(kind: Kind, e: Event) -> Known
+        ensures { result ≡ record e { kind = kind_number kind } }
+    {
+        Known {
+            kind,
+            a: e.a,
+            b: e.b,
+            id: e.id,
+            value: e.value,
+        }
+    }
+}
+
 // By hand, since no derive makes an enum of a number.
 impl TryFrom<u8> for Kind {
     type Error = Refusal;
 
     ghost try_from_gives = { λ number r. r ≡ kind_of number };
 
+    #[inline(always)]
     #[tactic(auto, unfolding(crate::specs::Events::kind_of))]
     fn try_from(number: u8) -> Result<Kind, Refusal> {
         match number {
@@ -81,6 +96,7 @@ impl Kind {
     }
 
     // Whether it names a second board.
+    #[inline(always)]
     #[tactic(auto, unfolding(crate::specs::Events::kind_number, crate::specs::Events::uses_other))]
     pub(crate) fn uses_other(self) -> bool
         ensures { result ≡ uses_other (kind_number self) }
@@ -92,6 +108,7 @@ impl Kind {
     }
 
     // Whether it has an identifier or a round.
+    #[inline(always)]
     #[tactic(auto, unfolding(crate::specs::Events::kind_number, crate::specs::Events::uses_id))]
     pub(crate) fn uses_id(self) -> bool
         ensures { result ≡ uses_id (kind_number self) }
@@ -100,6 +117,7 @@ impl Kind {
     }
 
     // Whether it has a value.
+    #[inline(always)]
     #[tactic(auto, unfolding(crate::specs::Events::kind_number, crate::specs::Events::uses_value, crate::specs::Events::uses_id))]
     pub(crate) fn uses_value(self) -> bool
         ensures { result ≡ uses_value (kind_number self) }
@@ -131,19 +149,5 @@ impl Event {
             id: byte(bytes, 3),
             value: u16::from_be_bytes([byte(bytes, 4), byte(bytes, 5)]),
         }
-    }
-
-    // With its kind told; refused where that is none.
-    #[tactic(auto, using(crate::proofs::TableLaws::told_kinds))]
-    pub(crate) fn known(self) -> Result<Known, Refusal>
-        ensures { result ≡ (if kind_row self then Err NoKind else Ok self) }
-    {
-        Ok(Known {
-            kind: Kind::try_from(self.kind)?,
-            a: self.a,
-            b: self.b,
-            id: self.id,
-            value: self.value,
-        })
     }
 }

@@ -2,7 +2,7 @@ ghost use Rattle.std.specs.Prelude.{◌≤◌, ◌≡◌, Ok, Err, if◌then◌e
 ghost use Rattle.delivery.specs.Limits.{limits};
 ghost use Rattle.delivery.specs.Counting.{every_in};
 ghost use Rattle.delivery.specs.Sets.{set_of};
-ghost use Rattle.bench.specs.Setups.{is_mark, is_mark_at, is_marked_sound, alone, fresh_answer, setup_by, fresh_of, bench_of};
+ghost use Rattle.bench.specs.Setups.{is_mark, is_mark_at, is_marked_sound, fresh_answer, setup, fresh_of, bench_of};
 ghost use Rattle.bench.specs.declared.answer.SetupFault.TheVariants.{NoMark};
 
 use crate::answer::SetupFault;
@@ -47,6 +47,7 @@ impl Bench {
     }
 
     // Nothing has happened yet on this bench.
+    #[inline(always)]
     #[tactic(auto, unfolding(crate::specs::Setups::bench_of))]
     fn of(n: u8, sound: BoardSet) -> Bench
         ensures { result ≡ bench_of limits n sound }
@@ -60,34 +61,37 @@ impl Bench {
         }
     }
 
-    // The fresh bench of one sound board, with the answer why it is no other: a refused call gives a bench (a rule of the
-    // project).
-    fn refused(fault: SetupFault) -> Fresh
-        ensures { result ≡ record { bench = bench_of limits alone.n alone.sound; answer = Err fault } }
+    // How many boards there are, which of them are sound, and the answer to the call for such a bench. Where it is refused
+    // there is one, which is sound, since a refused call gives a bench (a rule of the project).
+    #[inline(always)]
+    #[tactic(auto, using(crate::proofs::MakingLaws::bus_size), unfolding(crate::specs::Setups::fresh_answer, crate::specs::Setups::setup_by))]
+    fn setup(n: u8, marks: &[u8; Bench::BOARDS as usize]) -> (u8, BoardSet, Result<(), SetupFault>)
+        ensures count { result.0 ≡ (setup limits n marks.now).n }
+        ensures sound { result.1 ≡ (setup limits n marks.now).sound }
+        ensures answer { result.2 ≡ fresh_answer limits n marks.now }
     {
         let mut alone = BoardSet::empty();
         alone.insert(1);
-        Fresh {
-            bench: Bench::of(1, alone),
-            answer: Err(fault),
+        if !Delivered::is_board(n) {
+            return (1, alone, Err(SetupFault::NoBus));
+        }
+        match sound_of(n, marks) {
+            Ok(sound) => (n, sound, Ok(())),
+            Err(fault) => (1, alone, Err(fault)),
         }
     }
 
     // A fresh bench of n boards; marks are 0 for sound and 1 for faulty, and those after the n-th are not read. The call is
     // made from n and all seven marks (a rule of the project), so these stay two arguments, here and where a list is played.
-    #[tactic(auto, using(crate::proofs::MakingLaws::bus_size), unfolding(crate::specs::Setups::fresh_of, crate::specs::Setups::fresh_bench, crate::specs::Setups::fresh_answer, crate::specs::Setups::setup_by))]
+    // What it is comes first, so that the bench is made once, in the caller's place.
+    #[tactic(auto, unfolding(crate::specs::Setups::fresh_of, crate::specs::Setups::fresh_bench))]
     pub fn fresh(n: u8, marks: [u8; Bench::BOARDS as usize]) -> Fresh
         ensures { result ≡ fresh_of limits n marks }
     {
-        if !Delivered::is_board(n) {
-            return Bench::refused(SetupFault::NoBus);
-        }
-        match sound_of(n, &marks) {
-            Ok(sound) => Fresh {
-                bench: Bench::of(n, sound),
-                answer: Ok(()),
-            },
-            Err(fault) => Bench::refused(fault),
+        let (count, sound, answer) = Bench::setup(n, &marks);
+        Fresh {
+            bench: Bench::of(count, sound),
+            answer,
         }
     }
 }

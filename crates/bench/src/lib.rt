@@ -12,6 +12,7 @@ mod fresh;
 mod play;
 mod show;
 mod table;
+mod turn;
 
 pub use answer::{Refusal, SetupFault};
 pub use bench::Bench;

@@ -42,6 +42,7 @@ fn ending_of(bytes: usize, room: usize) -> Result<(), Unplayed>
 
 impl Bench {
     // Plays the events of a list, and writes their answers; bytes that are no whole event are not read.
+    #[inline(always)]
     #[tactic(auto, using(crate::proofs::RunLaws::run_lengths), unfolding(crate::specs::Runs::after, crate::specs::Runs::answers_to, crate::specs::Runs::steps, crate::specs::Runs::last_of, crate::specs::Runs::events_in))]
     fn run(&mut self, events: &[u8], answers: &mut [u8])
         requires { length events.now / event_bytes ≤ length answers.old }
@@ -56,6 +57,7 @@ impl Bench {
 
     /// Plays a list of events on this bench, the bytes of each as they stand in a schedule, and writes each answer's number to its
     /// place in `answers`; the rest of `answers` stays. A list that cannot be played leaves the bench and `answers` as they were.
+    #[inline(always)]
     #[tactic(auto, unfolding(crate::specs::Runs::ending_of, crate::specs::Runs::played_by, crate::specs::Runs::after, crate::specs::Runs::answers_to, crate::specs::Runs::written, crate::specs::Runs::steps, crate::specs::Runs::last_of))]
     pub fn play_on(&mut self, events: &[u8], answers: &mut [u8]) -> Result<(), Unplayed>
         ensures ending { result ≡ ending_of (length events.now) (length answers.old) }

@@ -1,31 +1,25 @@
-ghost use Rattle.std.specs.Prelude.{◌≡◌, Ok, Err, IfOk, IfErr, if◌then◌else◌};
-ghost use Rattle.signer.specs.FromOne.{nth};
+ghost use Rattle.std.specs.Prelude.{◌≡◌, ◌++◌, Ok, Err, if◌then◌else◌};
 ghost use Rattle.delivery.specs.Limits.{limits};
-ghost use Rattle.vote.specs.Boards.{fresh_board};
-ghost use Rattle.vote.specs.declared.board.Status.TheVariants.{Voting};
-ghost use Rattle.bench.specs.Events.{turning};
-ghost use Rattle.bench.specs.Benches.{move_at, said_at};
-ghost use Rattle.bench.specs.Private.{IsVoting};
-ghost use Rattle.bench.specs.declared.answer.Refusal.TheVariants.{MustWait};
-ghost use Rattle.bench.specs.Table.{boards_row, wrong_other, wrong_id, wrong_value, fields_row, mark_row, pair_row, start_row, end_row, signed_row, last_row, delivered_row, announcer_row, ballots_row, refuses, must_wait, first_of, event_rows, state_rows, turn_rows, check_of};
+ghost use Rattle.bench.specs.Table.{boards_row, wrong_other, wrong_id, wrong_value, fields_row, mark_row, pair_row, start_row, end_row, signed_row, last_row, delivered_row, announcer_row, ballots_row, first_of, event_rows, state_rows};
 
 use crate::answer::Refusal;
 use crate::bench::Bench;
-use crate::event::{Event, Kind, Known};
+use crate::event::{Kind, Known};
 use delivery::{Round, bus};
-use signer::{Identifier, Log, Signer, from_one};
-use vote::{Board, Move, Statement};
+use signer::{Identifier, Log, from_one};
 
 // A row of document 01's table: the event is refused so where it applies.
+#[inline(always)]
 fn refuse_if(applies: bool, refusal: Refusal) -> Result<(), Refusal>
     ensures { result ≡ (if applies then Err refusal else Ok tt) }
 {
     if applies { Err(refusal) } else { Ok(()) }
 }
 
-// What the table asks of the event alone. Row 10, that its kind is none, is told by `Event::known`.
+// What the table asks of the event alone.
 impl Known {
     // Row 12: b is not used, and not 0.
+    #[inline(always)]
     #[tactic(auto, unfolding(crate::specs::Table::wrong_other))]
     fn wrong_other(&self) -> bool
         ensures { result ≡ wrong_other self.now }
@@ -34,6 +28,7 @@ impl Known {
     }
 
     // Row 12: the identifier or round is none, or it is not used, and not 0.
+    #[inline(always)]
     #[tactic(auto, unfolding(crate::specs::Table::wrong_id, crate::specs::Events::uses_id, crate::specs::Events::kind_number))]
     fn wrong_id(&self) -> bool
         ensures { result ≡ wrong_id limits self.now }
@@ -46,6 +41,7 @@ impl Known {
     }
 
     // Row 12: the value is the blank, and no blank may stand there, or it is not used, and not 0.
+    #[inline(always)]
     #[tactic(auto, unfolding(crate::specs::Table::wrong_value, crate::specs::Events::uses_value, crate::specs::Events::uses_id, crate::specs::Events::kind_number))]
     fn wrong_value(&self) -> bool
         ensures { result ≡ wrong_value self.now }
@@ -57,6 +53,7 @@ impl Known {
     }
 
     // Row 12: a field other than the boards is wrong.
+    #[inline(always)]
     #[tactic(auto, unfolding(crate::specs::Table::fields_row))]
     fn fields_row(&self) -> bool
         ensures { result ≡ fields_row limits self.now }
@@ -65,6 +62,7 @@ impl Known {
     }
 
     // Row 14: an announcement, suspicion or trust of a board about itself.
+    #[inline(always)]
     #[tactic(auto, unfolding(crate::specs::Table::pair_row, crate::specs::Events::kind_number))]
     fn pair_row(&self) -> bool
         ensures { result ≡ pair_row self.now }
@@ -73,17 +71,10 @@ impl Known {
     }
 }
 
-// Whether a signer refuses what a board has to say.
-#[tactic(auto, unfolding(crate::specs::Table::refuses))]
-fn refuses(signer: &Signer, said: Option<Statement>) -> bool
-    ensures { result ≡ refuses limits signer.now said }
-{
-    said.is_some_and(|s| !signer.grants(s.id))
-}
-
 // What it asks of the bench.
 impl Bench {
     // Row 11: a, or b where it is used, is no board of the bench.
+    #[inline(always)]
     #[tactic(auto, unfolding(crate::specs::Table::boards_row))]
     fn boards_row(&self, e: &Known) -> bool
         ensures { result ≡ boards_row self.now e.now }
@@ -92,6 +83,7 @@ impl Bench {
     }
 
     // Row 13: a sound board's signer is asked, or another event is for a faulty board.
+    #[inline(always)]
     #[tactic(auto, unfolding(crate::specs::Table::mark_row, crate::specs::Events::kind_number))]
     fn mark_row(&self, e: &Known) -> bool
         ensures { result ≡ mark_row self.now e.now }
@@ -104,6 +96,7 @@ impl Bench {
 
     // Row 15: a proposal to a board that has started, a turn of or an announcement to one that has not. Here and in row 16
     // there is an arm for each kind, so `matches!` would be no plainer.
+    #[inline(always)]
     #[tactic(auto, unfolding(crate::specs::Table::start_row, crate::specs::Events::kind_number))]
     fn start_row(&self, e: &Known) -> bool
         ensures { result ≡ start_row limits self.now e.now }
@@ -116,6 +109,7 @@ impl Bench {
     }
 
     // Row 16: a turn of a board that is decided or spent, an announcement to one that is decided.
+    #[inline(always)]
     #[tactic(auto, unfolding(crate::specs::Table::end_row, crate::specs::Events::kind_number))]
     fn end_row(&self, e: &Known) -> bool
         ensures { result ≡ end_row limits self.now e.now }
@@ -129,6 +123,7 @@ impl Bench {
 
     // Row 17: b has not signed what is to be delivered. Rows 17 to 21 are about one kind each, which is a premise beside the
     // others, so a `match` would be no plainer.
+    #[inline(always)]
     #[tactic(auto, unfolding(crate::specs::Table::signed_row, crate::specs::Events::kind_number))]
     fn signed_row(&self, e: &Known) -> bool
         ensures { result ≡ signed_row limits self.now e.now }
@@ -137,14 +132,16 @@ impl Bench {
     }
 
     // Row 18, named for the signer's `last`: a's signer has signed under this identifier or a higher one.
+    #[inline(always)]
     #[tactic(auto, unfolding(crate::specs::Table::last_row, crate::specs::Events::kind_number))]
     fn last_row(&self, e: &Known) -> bool
         ensures { result ≡ last_row limits self.now e.now }
     {
-        e.kind == Kind::Sign && Identifier(e.id) <= self.signer(e.a).last
+        e.kind == Kind::Sign && self.ask_signer(e.a, |signer| Identifier(e.id) <= signer.last)
     }
 
     // Row 19: a has delivered b's statement under this identifier.
+    #[inline(always)]
     #[tactic(auto, unfolding(crate::specs::Table::delivered_row, crate::specs::Events::kind_number))]
     fn delivered_row(&self, e: &Known) -> bool
         ensures { result ≡ delivered_row limits self.now e.now }
@@ -153,6 +150,7 @@ impl Bench {
     }
 
     // Row 20: the announcer is sound, and has not decided so.
+    #[inline(always)]
     #[tactic(auto, unfolding(crate::specs::Table::announcer_row, crate::specs::Events::kind_number))]
     fn announcer_row(&self, e: &Known) -> bool
         ensures { result ≡ announcer_row limits self.now e.now }
@@ -163,6 +161,7 @@ impl Bench {
     }
 
     // Row 21: a accepts too few ballots for what is announced.
+    #[inline(always)]
     #[tactic(auto, unfolding(crate::specs::Table::ballots_row, crate::specs::Events::kind_number))]
     fn ballots_row(&self, e: &Known) -> bool
         ensures { result ≡ ballots_row limits self.now e.now }
@@ -172,38 +171,17 @@ impl Bench {
                 < bus::quorum(self.n)
     }
 
-    // Row 22, of board k, which is voting: it waits, or its signer refuses what it says. Else what it does and says in its
-    // turn.
-    #[tactic(auto, using(crate::proofs::TurnLaws::waiting), unfolding(crate::specs::Benches::board_at))]
-    pub(crate) fn next_move(&self, k: u8) -> Result<(Move, Option<Statement>), Refusal>
-        requires { IsVoting limits self.now k }
-        ensures { result ≡ (if must_wait limits self.now k then Err MustWait else Ok (move_at limits self.now k, said_at limits self.now k)) }
-    {
-        let step = self.ask(k, |board| board.next_move(self.n, k));
-        let round = self.ask(k, |board| board.position.round);
-        let said = step.said(k, round);
-        if step == Move::Waits || refuses(&self.signer(k), said) {
-            return Err(Refusal::MustWait);
-        }
-        Ok((step, said))
-    }
-
-    // Rows 11 to 14, about the event and the marks.
+    // Rows 11 to 21, the first that applies. Row 10, that the kind is none, is told by `Kind::try_from`; row 22, which is about
+    // what comes of a turn, by `turn`.
+    #[inline(always)]
     #[tactic(auto, unfolding(crate::specs::Table::first_of))]
-    fn check_event(&self, e: &Known) -> Result<(), Refusal>
-        ensures { result ≡ first_of (event_rows limits self.now e.now) }
+    pub(crate) fn check_rows(&self, e: &Known) -> Result<(), Refusal>
+        ensures { result ≡ first_of (event_rows limits self.now e.now ++ state_rows limits self.now e.now) }
     {
         refuse_if(self.boards_row(e), Refusal::NoBoard)?;
         refuse_if(e.fields_row(), Refusal::WrongField)?;
         refuse_if(self.mark_row(e), Refusal::WrongMark)?;
-        refuse_if(e.pair_row(), Refusal::SameBoard)
-    }
-
-    // Rows 15 to 21, about the boards and signers that it names.
-    #[tactic(auto, unfolding(crate::specs::Table::first_of))]
-    fn check_state(&self, e: &Known) -> Result<(), Refusal>
-        ensures { result ≡ first_of (state_rows limits self.now e.now) }
-    {
+        refuse_if(e.pair_row(), Refusal::SameBoard)?;
         refuse_if(self.start_row(e), Refusal::WrongStart)?;
         refuse_if(self.end_row(e), Refusal::AtEnd)?;
         refuse_if(self.signed_row(e), Refusal::NotSigned)?;
@@ -211,17 +189,5 @@ impl Bench {
         refuse_if(self.delivered_row(e), Refusal::AlreadyDelivered)?;
         refuse_if(self.announcer_row(e), Refusal::NotDecided)?;
         refuse_if(self.ballots_row(e), Refusal::FewBallots)
-    }
-
-    // Rows 10 to 21, all but row 22, which is about what comes of a turn; the event where none of them applies.
-    #[tactic(auto, unfolding(crate::specs::Table::check_of, crate::specs::Table::first_of))]
-    pub(crate) fn check_rows(&self, e: Event) -> Result<Known, Refusal>
-        ensures passed { IfOk result (λ k. (k ≡ e) × (e.kind ≡ turning → IsVoting limits self.now e.a) × (check_of limits self.now e ≡ first_of (turn_rows limits self.now e))) }
-        ensures refused { IfErr result (λ refusal. check_of limits self.now e ≡ Err refusal) }
-    {
-        let known = e.known()?;
-        self.check_event(&known)?;
-        self.check_state(&known)?;
-        Ok(known)
     }
 }

@@ -1,12 +1,12 @@
 -- `Bench::effect` meets its contract: the boards that are told something. Assumes nothing.
 use native.Mathlib.Omega.{arith}
 use borrow.Author.Rules.{rules}
-use Rattle.delivery.specs.Limits.{limits}
 use Rattle.vote.specs.Boards.{propose, suspect, trust}
-use Rattle.vote.specs.Announcements.{announce}
+use Rattle.vote.specs.declared.board.Status.TheVariants.{Decided}
 use Rattle.vote.specs.declared.board.Board.{Board}
 use Rattle.bench.specs.Events.{kind_number}
 use Rattle.bench.specs.Effects.{effect_of}
+use Rattle.bench.specs.Private.{announced}
 use Rattle.bench.proofs.bench.Bench.effect.Goals as goal
 
 pub returns-in-Propose-clause-ok : goal.returns-in-Propose-clause-ok
@@ -17,8 +17,8 @@ returns-in-Propose-clause-ok c =
 pub returns-in-Announce-clause-ok : goal.returns-in-Announce-clause-ok
 unfolding kind_number effect_of
 returns-in-Announce-clause-ok c =
-    let f = λ (b : Board). announce limits c.args.self.now.n b c.e.inside.id c.e.inside.value in
-    grind (arith, c.change-in-Announce.ensures f (λ b told. search rules))
+    let d = announced c.args.e.now in
+    grind (arith, c.requires.announcement, c.change-in-Announce.ensures (λ (b : Board). record b { status = Decided d }) (λ b told. search rules))
 
 pub returns-in-Suspect-clause-ok : goal.returns-in-Suspect-clause-ok
 unfolding kind_number effect_of

@@ -6,7 +6,7 @@ use mathlib.Core.List.{List}
 use lib.ListN.{length}
 use Rattle.delivery.specs.Limits.{limits}
 use Rattle.bench.specs.Setups.{fresh_bench, fresh_of}
-use Rattle.bench.specs.Runs.{steps, last_of, after, bench_after, answers_to, ending_of, played_by, events_played, written, answers_after}
+use Rattle.bench.specs.Runs.{bench_after, answers_to, events_played, answers_after}
 use Rattle.bench.specs.Claim.{Agreement}
 use Rattle.bench.specs.Demands.{played_history}
 use Rattle.bench.proofs.RunLaws.{length-answers, length-written, played-fits, history-written}
