@@ -93,6 +93,9 @@ module _ (L : Limits) (n : ℕ) (h : Store) (r : ℕ) where
   unfolding says
   opened-low x e l = grind (arith, opened-allowed, allowed-blank L n h r)
 
+  pub opened-sent : (opened L n h r ≡ 0) ⊎ (opened L n h r ≡ opening_entry L n h r)
+  opened-sent = grind (arith, opened-allowed)
+
   pub opened-found : (x y : ℕ) (p : ℕ → Bool) → x ≡ opening_entry L n h r → p ≡ allowed L n h r
       → y ≡ (if says x p then x else 0) → y ≡ opened L n h r
   opened-found x y p e f g = rw (e, f) at g ∙ sym opened-allowed

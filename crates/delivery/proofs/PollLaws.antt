@@ -65,10 +65,10 @@ module _ (L : Limits) (n : ℕ) (h : Store) (r : ℕ) where
       → set_of n (λ (s : ℕ). accepts_ballot L n h r s 0) ≡ set_of n (λ (s : ℕ). accepts_ballot L n h r s w)
   blanks w e = rw e refl
 
-  same : (w : ℕ) → opened L n h r ≡ entry_of w
+  pub backing-bears : (w : ℕ) → opened L n h r ≡ entry_of w
       → set_of n (λ (s : ℕ). says (opened L n h r) (accepts_ballot L n h r s)) ≡ set_of n (λ (s : ℕ). accepts_ballot L n h r s w)
   unfolding says
-  same w e = rw e refl
+  backing-bears w e = rw e refl
 
   -- so of the tally, the boards whose ballots bear a value are those whose accepted ballots do
   pub bearers-tallied : (w : ℕ)
@@ -77,7 +77,7 @@ module _ (L : Limits) (n : ℕ) (h : Store) (r : ℕ) where
   bearers-tallied w =
       let none = λ (z : w ≡ 0 → ⊥) (f : accepts_opening L n h r w ≡ false).
       set-none n (λ (s : ℕ). accepts_ballot L n h r s w) (λ s a b. ballot-unopened L n h r s w z f) in
-      grind (arith, nat_tests, blanks w, none, same w, opened-opens L n h r w)
+      grind (arith, nat_tests, blanks w, none, backing-bears w, opened-opens L n h r w)
 
 module _ (L : Limits) (es : List ℕ) (r n : ℕ) where
   -- and those with a ballot are those with an accepted one

@@ -24,16 +24,16 @@ pub struct Tally {
 
 impl Tally {
     // The boards with an accepted ballot, whatever it bears.
-    pub fn ballots(self) -> BoardSet
-        ensures { result ≡ union self.blank self.backing }
+    pub fn ballots(&self) -> BoardSet
+        ensures { result ≡ union self.now.blank self.now.backing }
     {
         self.blank.union(self.backing)
     }
 
     // The boards whose accepted ballots bear a value.
     #[tactic(auto, unfolding(crate::specs::Acceptance::bearers))]
-    pub fn ballots_for(self, value: u16) -> BoardSet
-        ensures { result ≡ bearers self value }
+    pub fn ballots_for(&self, value: u16) -> BoardSet
+        ensures { result ≡ bearers self.now value }
     {
         if value == Log::BLANK {
             return self.blank;
