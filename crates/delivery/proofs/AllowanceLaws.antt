@@ -4,20 +4,26 @@ use Prim.Native.Nat.{ℕ, zero, suc, ◌+◌, ◌-◌, ◌≤◌, ◌<◌, min}
 use native.Mathlib.Omega.{arith}
 use native.Mathlib.Numerals.{add-one}
 use mathlib.Core.Path.{◌≡◌, refl, sym, ap, fun_ext, ◌∙◌}
-use mathlib.Core.Bool.{Bool, true}
+use mathlib.Core.Bool.{Bool, true, false}
 use Rattle.std.specs.Prelude.{if◌then◌else◌, nat_le, ◌||◌}
+use Rattle.std.proofs.lemmas.Bool.{false_from_ne_true}
 use Rattle.std.proofs.lemmas.Bool.Decides.{nat_tests}
-use Rattle.signer.specs.Log.{entry_of}
+use Rattle.signer.specs.Log.{is_identifier, entry_of}
 use Rattle.delivery.specs.Counting.{count_in, count_of, every_of, some_choice}
 use Rattle.delivery.specs.Limits.{Limits}
 use Rattle.delivery.specs.Bus.{quorum, overlap}
-use Rattle.delivery.specs.Delivered.{Store}
+use Rattle.delivery.specs.Rounds.{is_round, identifier_of}
+use Rattle.delivery.specs.Delivered.{Store, heard}
+use Rattle.delivery.specs.declared.delivered.Delivered.{Delivered}
+use Rattle.delivery.specs.declared.round.Phase.TheVariants.{Ballot}
 use Rattle.delivery.specs.Acceptance.{says, opening_entry, bears, backs, allowed_after, allowed, accepts_ballot, accepts_some}
 use Rattle.delivery.specs.Private.{lets}
 use Rattle.delivery.specs.declared.allowance.Allowance.{Allowance}
 use Rattle.delivery.specs.declared.allowance.Allowance.TheVariants.{Nothing, Every, Only}
-use Rattle.delivery.proofs.SetLaws.{count_set}
-use Rattle.delivery.proofs.CountLaws.{overlap-pos, count-cong, count-or, find}
+use Rattle.signer.proofs.FromOneLaws.{within_low, within-high}
+use Rattle.delivery.proofs.RoundLaws.{identifier-none}
+use Rattle.delivery.proofs.DeliveredLaws.{heard-outside}
+use Rattle.delivery.proofs.CountLaws.{count-none, overlap-le, overlap-pos, count-cong, count-or, find}
 use Rattle.delivery.proofs.AllRoundsLaws.{allowed-blank, ballot-needs}
 use Rattle.delivery.proofs.OneRoundLaws.{entry, blank, backing, opened-entry, some-either, value-among, backing-few, by-counts, counted, later-counts}
 
@@ -104,5 +110,26 @@ module _ (L : Limits) (n : ℕ) (h : Store) where
       let later = later-counts L n h r w low (omega (arith, some)) in
       rw left (next ∙ (cc same) ∙ sym later))
 
+-- after the last round no ballot is heard, so in the round after that nothing is allowed
+late : (L : Limits) (n : ℕ) (d : Delivered) (r w : ℕ) → (n ≡ 0 → ⊥) → 1 ≤ r → L.rounds < r
+    → allowed L n (heard L d) (r + 1) w ≡ false
+unfolding by-counts backs bears says
+late L n d r w some low l =
+    let none = false_from_ne_true (is_round L r) (λ t. omega (arith, within-high L.rounds r t)) in
+    let i = identifier_of L Ballot r in
+    let outside = false_from_ne_true (is_identifier L.identifiers i) (λ t. omega (arith, within_low L.identifiers i t, identifier-none L Ballot r none)) in
+    let silent = λ (s : ℕ). heard-outside L d s i outside in
+    let blanks = count-none n (bears L (heard L d) r 0) (λ s a b. grind (arith, nat_tests, silent s)) in
+    let backs = count-none n (backs L (heard L d) r (entry L n (heard L d) r)) (λ s a b. grind (arith, nat_tests, silent s)) in
+    let counts = later-counts L n (heard L d) r w low (omega (arith, some)) in
+    grind (arith, nat_tests, counts, blanks, backs, overlap-pos n, overlap-le n)
+
+pub nothing-late : (L : Limits) (n : ℕ) (d : Delivered) (r : ℕ) → (n ≡ 0 → ⊥) → L.rounds + 1 < r
+    → lets Nothing ≡ allowed L n (heard L d) r
+unfolding lets
+nothing-late L n d r some l =
+    let e : r ≡ (r - 1) + 1 = omega arith in
+    rw e (fun_ext (λ w. sym (late L n d (r - 1) w some (omega arith) (omega arith))))
+
 -- for the functions
-pub ruleset allowance = (nothing_before, every-nobody, every_first, pass-turn, count_set)
+pub ruleset allowance = (nothing_before, every-nobody, nothing-late, every_first, pass-turn)

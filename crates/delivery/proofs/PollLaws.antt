@@ -9,15 +9,17 @@ use mathlib.Core.List.{List}
 use Rattle.std.proofs.lemmas.Bool.{false_from_ne_true}
 use Rattle.std.proofs.lemmas.Bool.Decides.{nat_tests}
 use Rattle.signer.specs.Log.{entry_of}
+use Rattle.delivery.specs.Counting.{count_in}
 use Rattle.delivery.specs.Limits.{Limits}
 use Rattle.delivery.specs.Bus.{is_board}
 use Rattle.delivery.specs.Rounds.{identifier_of}
 use Rattle.delivery.specs.Sets.{set_of, bits, union}
 use Rattle.delivery.specs.Delivered.{Store, heard_in}
-use Rattle.delivery.specs.Acceptance.{says, ballot_entry, bears, backs, counts, counts_some, accepts_opening, accepts_ballot, accepts_some, opened, tally_of, bearers}
+use Rattle.delivery.specs.Acceptance.{says, ballot_entry, bears, backs, counts, counts_some, accepts_opening, accepts_ballot, accepts_some, opened_entry, tally_of, bearers}
 use Rattle.delivery.specs.declared.round.Phase.TheVariants.{Ballot}
 use Rattle.signer.proofs.FromOneLaws.{within-high}
-use Rattle.delivery.proofs.SetLaws.{union-sets, set-none, set-take, set-cong, set_beyond, set-fits}
+use Rattle.delivery.proofs.CountLaws.{count-le, count-take, count-leave, count_beyond}
+use Rattle.delivery.proofs.SetLaws.{union-sets, set-none, set-take, set-leave, set-cong, set_beyond, set-fits}
 use Rattle.delivery.proofs.DeliveredLaws.{heard-nobody}
 use Rattle.delivery.proofs.AllRoundsLaws.{ballot-sent, ballot-unopened, opened-backs, opened-opens}
 
@@ -52,21 +54,33 @@ module _ (L : Limits) (es : List ℕ) (r : ℕ) where
   backs-found n x =
       sym (set_beyond n L.boards (backs L (heard_in L es) r x) (λ s l. grind (arith, nat_tests, silent s l)))
 
+  pub blank-counted : (n : ℕ)
+      → count_in (min n L.boards) (bears L (heard_in L es) r 0) ≡ count_in n (bears L (heard_in L es) r 0)
+  unfolding bears
+  blank-counted n =
+      sym (count_beyond n L.boards (bears L (heard_in L es) r 0) (λ s l. grind (arith, nat_tests, silent s l)))
+
+  pub backs-counted : (n x : ℕ)
+      → count_in (min n L.boards) (backs L (heard_in L es) r x) ≡ count_in n (backs L (heard_in L es) r x)
+  unfolding backs says bears
+  backs-counted n x =
+      sym (count_beyond n L.boards (backs L (heard_in L es) r x) (λ s l. grind (arith, nat_tests, silent s l)))
+
 -- what is found is accepted, where the opening's entry is that of the accepted one
 module _ (L : Limits) (n : ℕ) (h : Store) (r : ℕ) where
   pub blank-accepted : set_of n (bears L h r 0) ≡ set_of n (λ (s : ℕ). accepts_ballot L n h r s 0)
   blank-accepted = set-cong n _ _ (λ s a b. sym (ballot-sent L n h r s 0 (inl refl)))
 
-  pub backing-accepted : (x : ℕ) → x ≡ opened L n h r
-      → set_of n (backs L h r x) ≡ set_of n (λ (s : ℕ). says (opened L n h r) (accepts_ballot L n h r s))
+  pub backing-accepted : (x : ℕ) → x ≡ opened_entry L n h r
+      → set_of n (backs L h r x) ≡ set_of n (λ (s : ℕ). says (opened_entry L n h r) (accepts_ballot L n h r s))
   backing-accepted x e = rw e (set-cong n _ _ (λ s a b. sym (opened-backs L n h r s)))
 
   blanks : (w : ℕ) → w ≡ 0
       → set_of n (λ (s : ℕ). accepts_ballot L n h r s 0) ≡ set_of n (λ (s : ℕ). accepts_ballot L n h r s w)
   blanks w e = rw e refl
 
-  pub backing-bears : (w : ℕ) → opened L n h r ≡ entry_of w
-      → set_of n (λ (s : ℕ). says (opened L n h r) (accepts_ballot L n h r s)) ≡ set_of n (λ (s : ℕ). accepts_ballot L n h r s w)
+  pub backing-bears : (w : ℕ) → opened_entry L n h r ≡ entry_of w
+      → set_of n (λ (s : ℕ). says (opened_entry L n h r) (accepts_ballot L n h r s)) ≡ set_of n (λ (s : ℕ). accepts_ballot L n h r s w)
   unfolding says
   backing-bears w e = rw e refl
 
@@ -90,16 +104,28 @@ module _ (L : Limits) (es : List ℕ) (r n : ℕ) where
       let fits = set-fits n L.boards _ (λ s g. none s g) l in
       union-sets n _ _ fits ∙ set-cong n _ _ (λ s a b. either s)
     where
-      either : (s : ℕ) → (accepts_ballot L n (heard_in L es) r s 0 || says (opened L n (heard_in L es) r) (accepts_ballot L n (heard_in L es) r s))
+      either : (s : ℕ) → (accepts_ballot L n (heard_in L es) r s 0 || says (opened_entry L n (heard_in L es) r) (accepts_ballot L n (heard_in L es) r s))
           ≡ accepts_some L n (heard_in L es) r s
       either s = grind (arith, nat_tests, opened-backs L n (heard_in L es) r s, opened-opens L n (heard_in L es) r)
 
       none : (s : ℕ) → L.boards < s
-          → (accepts_ballot L n (heard_in L es) r s 0 || says (opened L n (heard_in L es) r) (accepts_ballot L n (heard_in L es) r s)) ≡ false
+          → (accepts_ballot L n (heard_in L es) r s 0 || says (opened_entry L n (heard_in L es) r) (accepts_ballot L n (heard_in L es) r s)) ≡ false
       none s g = grind (arith, nat_tests, silent L es r s g)
 
 -- for the functions
-pub ruleset scanning = (blank-test, backs-test, blank-found, backs-found, set-take)
+pub ruleset scanning = (
+  blank-test,
+  backs-test,
+  blank-found,
+  backs-found,
+  blank-counted,
+  backs-counted,
+  set-take,
+  set-leave,
+  count-take,
+  count-leave,
+  count-le,
+)
 
 pub ruleset tallied = (blank-accepted, backing-accepted)
 

@@ -96,17 +96,17 @@ module _ (L : Limits) (n : ℕ) (h : Store) where
   accepts_some r s = counts_some L n h (allowed r) r s
 
   -- the entry of the opening of r if the board accepts it; 0, which is none, if not
-  unfoldable pub opened : ℕ → ℕ
-  opened r = if says (opening_entry L n h r) (accepts_opening r) then opening_entry L n h r else 0
+  unfoldable pub opened_entry : ℕ → ℕ
+  opened_entry r = if says (opening_entry L n h r) (accepts_opening r) then opening_entry L n h r else 0
 
   -- what it accepts of r: this opening, the boards of 1 to n with an accepted blank ballot, and those with an accepted
   -- ballot for what the opening bears
   abbrev pub tally_of : ℕ → Tally
   tally_of r =
       record {
-        opening = opened r;
+        opening = opened_entry r;
         blank = set_of n (λ (s : ℕ). accepts_ballot r s 0);
-        backing = set_of n (λ (s : ℕ). says (opened r) (accepts_ballot r s));
+        backing = set_of n (λ (s : ℕ). says (opened_entry r) (accepts_ballot r s));
       }
 
 -- of a tally, the boards whose ballots bear w

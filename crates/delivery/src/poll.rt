@@ -3,7 +3,7 @@ ghost use Rattle.delivery.specs.Counting.{count_in};
 ghost use Rattle.delivery.specs.Limits.{limits};
 ghost use Rattle.delivery.specs.Sets.{set_of, union};
 ghost use Rattle.delivery.specs.Delivered.{heard};
-ghost use Rattle.delivery.specs.Acceptance.{says, opening_entry, bears, backs, allowed, accepts_opening, accepts_ballot, accepts_some, opened, tally_of, bearers};
+ghost use Rattle.delivery.specs.Acceptance.{says, opening_entry, bears, backs, allowed, accepts_opening, accepts_ballot, accepts_some, opened_entry, tally_of, bearers};
 ghost use Rattle.delivery.specs.Private.{lets};
 
 use crate::allowance::Allowance;
@@ -45,6 +45,15 @@ impl Tally {
     }
 }
 
+// What one scan of a round's ballots finds: the boards, and how many they are, which is all that the pass over the earlier
+// rounds asks for. They are counted on the way: it takes longer to count the bits of a set.
+#[derive(Clone, Copy)]
+struct Scan {
+    tally: Tally,
+    blank: u8,
+    backing: u8,
+}
+
 // A round among n boards, as one board has heard it.
 #[derive(Drop)]
 pub struct Poll<'a> {
@@ -80,36 +89,46 @@ impl<'a> Poll<'a> {
     // One look at each ballot of the round: which are blank, and which have this entry; no ballot has entry 0. The bench
     // collects sets by such loops too: one public call for all would take the test as a closure, and so ask something of
     // its callers, which a rule of the project forbids.
-    #[tactic(auto, using(crate::proofs::PollLaws::scanning), unfolding(crate::specs::Sets::set_of, crate::specs::Acceptance::backs, crate::specs::Acceptance::says))]
-    fn scan(&self, opening: u32) -> Tally
-        ensures { result ≡ record { opening = opening; blank = set_of self.now.n (bears limits (heard limits self.now.delivered) self.now.round 0); backing = set_of self.now.n (backs limits (heard limits self.now.delivered) self.now.round opening) } }
+    #[inline(always)]
+    #[tactic(auto, using(crate::proofs::PollLaws::scanning), unfolding(crate::specs::Sets::set_of, crate::specs::Counting::count_in))]
+    fn scan(&self, opening: u32) -> Scan
+        ensures tally { result.tally ≡ record { opening = opening; blank = set_of self.now.n (bears limits (heard limits self.now.delivered) self.now.round 0); backing = set_of self.now.n (backs limits (heard limits self.now.delivered) self.now.round opening) } }
+        ensures blank { result.blank ≡ count_in self.now.n (bears limits (heard limits self.now.delivered) self.now.round 0) }
+        ensures backing { result.backing ≡ count_in self.now.n (backs limits (heard limits self.now.delivered) self.now.round opening) }
     {
         let id = self.round.identifier(Phase::Ballot);
         let mut blank = BoardSet::empty();
         let mut backing = BoardSet::empty();
+        let mut blank_count = 0;
+        let mut backing_count = 0;
         // no number above the boards that there can be has said anything
         for k in 0..self.n.min(Delivered::BOARDS) {
             let entry = self.delivered.entry(k + 1, id);
             if entry == Log::entry_of(Log::BLANK) {
                 blank.insert(k + 1);
+                blank_count += 1;
             }
             if entry == opening && opening != 0 {
                 backing.insert(k + 1);
+                backing_count += 1;
             }
         }
-        Tally {
-            opening,
-            blank,
-            backing,
+        Scan {
+            tally: Tally {
+                opening,
+                blank,
+                backing,
+            },
+            blank: blank_count,
+            backing: backing_count,
         }
     }
 
     // How many boards of 1 to n have a ballot of the round with this entry, accepted or not.
-    #[tactic(auto, using(crate::proofs::SetLaws::count_set))]
     pub fn count_bearing(&self, entry: u32) -> u8
         ensures { result ≡ count_in self.now.n (backs limits (heard limits self.now.delivered) self.now.round entry) }
     {
-        self.scan(entry).backing.count(self.n)
+        self.scan(entry).backing
     }
 
     // The entry of the opening that the round's coordinator sent.
@@ -122,6 +141,7 @@ impl<'a> Poll<'a> {
     }
 
     // What is allowed in the round: one pass over the rounds before it.
+    #[inline(never)]
     #[tactic(auto, using(crate::proofs::AllowanceLaws::allowance))]
     fn allowance(&self) -> Allowance
         ensures { lets result ≡ allowed limits self.now.n (heard limits self.now.delivered) self.now.round }
@@ -134,16 +154,16 @@ impl<'a> Poll<'a> {
         if self.n == 0 {
             return Allowance::Every;
         }
+        // in no round after the last is a ballot heard
+        if self.round.0 > Round::LAST + 1 {
+            return Allowance::Nothing;
+        }
         let mut allowance = Allowance::Every;
         for r in 1..self.round.0 {
             let earlier = self.delivered.poll(self.n, Round(r));
-            let tally = earlier.scan(allowance.opened(earlier.opening()));
-            allowance = allowance.settled(
-                self.n,
-                tally.opening,
-                tally.blank.count(self.n),
-                tally.backing.count(self.n),
-            );
+            let opening = allowance.opened(earlier.opening());
+            let scan = earlier.scan(opening);
+            allowance = allowance.settled(self.n, opening, scan.blank, scan.backing);
         }
         allowance
     }
@@ -163,7 +183,7 @@ impl<'a> Poll<'a> {
     // The entry of the round's opening where that is accepted; 0, which is none, where it is not.
     #[tactic(auto, using(crate::proofs::AllRoundsLaws::openings))]
     pub fn opened(&self) -> u32
-        ensures { result ≡ opened limits self.now.n (heard limits self.now.delivered) self.now.round }
+        ensures { result ≡ opened_entry limits self.now.n (heard limits self.now.delivered) self.now.round }
     {
         let opening = self.opening();
         // then there is no need of the pass
@@ -178,7 +198,7 @@ impl<'a> Poll<'a> {
     pub fn tally(&self) -> Tally
         ensures { result ≡ tally_of limits self.now.n (heard limits self.now.delivered) self.now.round }
     {
-        self.scan(self.opened())
+        self.scan(self.opened()).tally
     }
 
     // Whether the opening of the round with a value is accepted.

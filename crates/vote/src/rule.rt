@@ -81,6 +81,7 @@ impl Position {
     }
 
     // What board `me` of n does in its turn. The two numbers stay apart, as in `Board::next_move`.
+    #[inline(always)]
     #[tactic(auto, using(crate::proofs::ActLaws::said), unfolding(crate::specs::Rule::rule, crate::specs::Rule::move_at))]
     pub fn rule(&self, n: u8, me: u8, delivered: &Delivered) -> Move
         ensures moved { result ≡ rule limits n me self.now (heard limits delivered.now) }
