@@ -2,12 +2,11 @@
 use Prim.Native.Nat.{ℕ, ◌≤◌, ◌<◌, ◌*◌}
 use native.Mathlib.Omega.{arith}
 use mathlib.Core.Path.{◌≡◌, ap, ◌∙◌}
-use mathlib.Core.Bool.{Bool, true, false}
+use mathlib.Core.Bool.{Bool, false}
 use mathlib.Core.Logic.{◌⊎◌}
-use Rattle.std.specs.Prelude.{if◌then◌else◌, min, max, ◌==◌, nat_le, nat_lt, ◌||◌}
+use Rattle.std.specs.Prelude.{min, ◌==◌, ◌||◌}
 use Rattle.std.proofs.lemmas.Bool.{false_from_ne_true}
 use Rattle.std.proofs.lemmas.Bool.Decides.{nat_tests}
-use Rattle.signer.specs.Log.{value_of}
 use Rattle.signer.proofs.FromOneLaws.{within-high}
 use Rattle.delivery.specs.Counting.{count_in}
 use Rattle.delivery.specs.Limits.{Limits}
@@ -15,8 +14,7 @@ use Rattle.delivery.specs.Bus.{is_board, quorum, overlap}
 use Rattle.delivery.specs.Rounds.{coordinator, identifier_of}
 use Rattle.delivery.specs.Sets.{in_set, set_of, bits, union}
 use Rattle.delivery.specs.Delivered.{Store, heard}
-use Rattle.delivery.specs.Acceptance.{accepts_some, tally_of}
-use Rattle.delivery.specs.declared.poll.Tally.{Tally}
+use Rattle.delivery.specs.Acceptance.{accepts_some}
 use Rattle.delivery.specs.declared.delivered.Delivered.{Delivered}
 use Rattle.delivery.specs.declared.round.Phase.TheVariants.{Ballot}
 use Rattle.delivery.proofs.AllRoundsLaws.{accepted-reads, ballot-reads}
@@ -31,7 +29,7 @@ use Rattle.vote.specs.declared.position.Position.{Position}
 use Rattle.vote.specs.declared.position.Stage.TheVariants.{Open, Vote, Count}
 use Rattle.vote.specs.declared.rule.Move.{Move}
 use Rattle.vote.specs.declared.rule.Move.TheVariants.{Waits, Passes, Opens, Ballots, Decides, Advances, Expires}
-use Rattle.vote.proofs.BallotLaws.{with-opened, with-tallied, tally-won}
+use Rattle.vote.proofs.BallotLaws.{with-opened, tally-won}
 
 -- Stage C by sets, as the program counts: m is that of the boards with an accepted ballot. Only boards that there can
 -- be have one, so where a quorum has there are no more boards than a set has bits.
@@ -79,22 +77,6 @@ module _ (L : Limits) (n : ℕ) (p : Position) (d : Delivered) (m : ℕ) where
       let x = in-set_of-within n accepted k g u in
       let y = in-union m p.suspected k g (omega arith) in
       cc) in
-      grind (arith, nat_tests)
-
-  -- and what it does then, where b ballots bear the tally's value
-  pub count-tallied : (t : Tally) (b : ℕ) → t ≡ tally_of L n (heard L d) p.round.0
-      → b ≡ (if value_of t.opening == 0 then 0 else count_in n (in_set t.backing))
-      → may_count L n p (heard L d) ≡ true
-      → count_move L n p (heard L d)
-      ≡ (if nat_le (max (quorum n) 1) b
-      then Decides (value_of t.opening)
-      else (let v = if nat_le (max (overlap n) 1) b then value_of t.opening else p.estimate in
-      if nat_lt p.round.0 L.rounds then Advances v else Expires v))
-  unfolding count_move onward next_estimate
-  count-tallied t b e f m =
-      let w = with-tallied L n (heard L d) p.round.0 t b e f in
-      let q = w (quorum n) in
-      let o = w (overlap n) in
       grind (arith, nat_tests)
 
 -- how a round that decides nothing leaves the estimate: as it was, or a value that e or more accepted ballots bear, and
