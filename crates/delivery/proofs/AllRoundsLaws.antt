@@ -100,16 +100,16 @@ module _ (L : Limits) (n : ℕ) (h : Store) (r : ℕ) where
       → y ≡ (if says x p then x else 0) → y ≡ opened_entry L n h r
   opened-found x y p e f g = rw (e, f) at g ∙ sym opened-allowed
 
-  pub opened-opens : (w : ℕ) → accepts_opening L n h r w ≡ (opened_entry L n h r == entry_of w)
+  pub opened-entry : (w : ℕ) → accepts_opening L n h r w ≡ (opened_entry L n h r == entry_of w)
   unfolding accepts_opening opens says
-  opened-opens w = grind (arith, nat_tests, opened-allowed, allowed-blank L n h r)
+  opened-entry w = grind (arith, nat_tests, opened-allowed, allowed-blank L n h r)
 
   -- and what the accepted opening bears, an accepted ballot bears as soon as a ballot does
   pub opened-backs : (s : ℕ) → says (opened_entry L n h r) (accepts_ballot L n h r s) ≡ backs L h r (opened_entry L n h r) s
   unfolding says backs accepts_ballot counts accepts_opening
-  opened-backs s = grind (arith, nat_tests, opened-opens)
+  opened-backs s = grind (arith, nat_tests, opened-entry)
 
 -- for the functions
-pub ruleset openings = (opened-low, opened-found, opened-opens)
+pub ruleset openings = (opened-low, opened-found, opened-entry)
 
 pub ruleset allowed_blank = (allowed-blank)

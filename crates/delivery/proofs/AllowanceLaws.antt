@@ -24,8 +24,8 @@ use Rattle.signer.proofs.FromOneLaws.{within_low, within-high}
 use Rattle.delivery.proofs.RoundLaws.{identifier-none}
 use Rattle.delivery.proofs.DeliveredLaws.{heard-outside}
 use Rattle.delivery.proofs.CountLaws.{count-none, overlap-le, overlap-pos, count-cong, count-or, find}
-use Rattle.delivery.proofs.AllRoundsLaws.{allowed-blank, ballot-needs}
-use Rattle.delivery.proofs.OneRoundLaws.{entry, blank, backing, opened-entry, some-either, value-among, backing-few, by-counts, counted, later-counts}
+use Rattle.delivery.proofs.AllRoundsLaws.{allowed-blank, opened-entry, opened-found, opening-reads, ballot-needs}
+use Rattle.delivery.proofs.OneRoundLaws.{entry, blank, backing, some-either, value-among, backing-few, by-counts, counted, later-counts}
 
 -- where q boards or more have an accepted ballot
 module _ (L : Limits) (n : ℕ) (h : Store) (r : ℕ) (some : 1 ≤ n) (low : 1 ≤ r)
@@ -99,13 +99,13 @@ module _ (L : Limits) (n : ℕ) (h : Store) where
       then a
       else (if nat_le (quorum n) (b + c) then Only x else Nothing))
       → lets a' ≡ allowed L n h (r + 1)
-  unfolding entry says
   pass-turn a a' r x b c f some low opens blanks backers left =
-      let same : x ≡ entry L n h r = rw f at opens in
+      let same = opened-found L n h r (opening_entry L n h r) x (lets a) refl f opens in
       fun_ext
       (λ w.
       let same-lets : lets a w ≡ allowed L n h r w = ap (λ (p : ℕ → Bool). p w) f in
-      let passes : x ≡ entry_of w → lets a w ≡ true = λ e. grind (arith, e) in
+      let accepted = λ (e : x ≡ entry_of w). opening-reads L n h r w (grind (arith, nat_tests, opened-entry L n h r w)) in
+      let passes : x ≡ entry_of w → lets a w ≡ true = λ e. same-lets ∙ (accepted e).permitted in
       let next = settled a (quorum n) (overlap n) x b c w (omega (arith, some)) passes in
       let later = later-counts L n h r w low (omega (arith, some)) in
       rw left (next ∙ (cc same) ∙ sym later))

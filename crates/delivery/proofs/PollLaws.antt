@@ -21,7 +21,7 @@ use Rattle.signer.proofs.FromOneLaws.{within-high}
 use Rattle.delivery.proofs.CountLaws.{count-le, count-take, count-leave, count_beyond}
 use Rattle.delivery.proofs.SetLaws.{union-sets, set-none, set-take, set-leave, set-cong, set_beyond, set-fits}
 use Rattle.delivery.proofs.DeliveredLaws.{heard-nobody}
-use Rattle.delivery.proofs.AllRoundsLaws.{ballot-sent, ballot-unopened, opened-backs, opened-opens}
+use Rattle.delivery.proofs.AllRoundsLaws.{ballot-sent, ballot-unopened, opened-backs, opened-entry}
 
 module _ (L : Limits) (es : List ℕ) (r : ℕ) where
   -- a number that no board can have bears nothing
@@ -91,7 +91,7 @@ module _ (L : Limits) (n : ℕ) (h : Store) (r : ℕ) where
   bearers-tallied w =
       let none = λ (z : w ≡ 0 → ⊥) (f : accepts_opening L n h r w ≡ false).
       set-none n (λ (s : ℕ). accepts_ballot L n h r s w) (λ s a b. ballot-unopened L n h r s w z f) in
-      grind (arith, nat_tests, blanks w, none, backing-bears w, opened-opens L n h r w)
+      grind (arith, nat_tests, blanks w, none, backing-bears w, opened-entry L n h r w)
 
 module _ (L : Limits) (es : List ℕ) (r n : ℕ) where
   -- and those with a ballot are those with an accepted one
@@ -106,7 +106,7 @@ module _ (L : Limits) (es : List ℕ) (r n : ℕ) where
     where
       either : (s : ℕ) → (accepts_ballot L n (heard_in L es) r s 0 || says (opened_entry L n (heard_in L es) r) (accepts_ballot L n (heard_in L es) r s))
           ≡ accepts_some L n (heard_in L es) r s
-      either s = grind (arith, nat_tests, opened-backs L n (heard_in L es) r s, opened-opens L n (heard_in L es) r)
+      either s = grind (arith, nat_tests, opened-backs L n (heard_in L es) r s, opened-entry L n (heard_in L es) r)
 
       none : (s : ℕ) → L.boards < s
           → (accepts_ballot L n (heard_in L es) r s 0 || says (opened_entry L n (heard_in L es) r) (accepts_ballot L n (heard_in L es) r s)) ≡ false

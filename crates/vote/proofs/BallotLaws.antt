@@ -18,7 +18,7 @@ use Rattle.delivery.specs.declared.poll.Tally.{Tally}
 use Rattle.delivery.proofs.CountLaws.{find, count-some}
 use Rattle.delivery.proofs.SetLaws.{count_set}
 use Rattle.delivery.proofs.PollLaws.{backing-bears}
-use Rattle.delivery.proofs.AllRoundsLaws.{opened-sent, opened-opens, opening-reads, ballot-reads, accepted-reads, reads-accepted, ballot-needs}
+use Rattle.delivery.proofs.AllRoundsLaws.{opened-sent, opened-entry, opening-reads, ballot-reads, accepted-reads, reads-accepted, ballot-needs}
 use Rattle.delivery.proofs.AgreementLaws.{Won}
 use Rattle.vote.specs.Ballots.{some_value, opened_value, tally, borne_by, value_with}
 
@@ -122,7 +122,7 @@ module _ (L : Limits) (n : ℕ) (h : Store) (r : ℕ) where
         arith,
         nat_tests,
         opened-sent L n h r,
-        opened-opens L n h r (value_of (opening_entry L n h r)),
+        opened-entry L n h r (value_of (opening_entry L n h r)),
         entry_value (tally_of L n h r).opening,
       )
 
