@@ -12,8 +12,8 @@ use Rattle.delivery.specs.Delivered.{Store}
 use Rattle.delivery.specs.Acceptance.{opens, allowed, accepts_opening, accepts_ballot}
 pub use Rattle.delivery.specs.Claims.{Won}
 use Rattle.delivery.proofs.CountLaws.{find, overlap-pos, overlap-le}
-use Rattle.delivery.proofs.AllRoundsLaws.{Opens, opening-reads, reads-opening, ballot-needs}
-use Rattle.delivery.proofs.OneRoundLaws.{entry, backing, by-counts, later-counts, opened-entry, value-among, blank-backing}
+use Rattle.delivery.proofs.AllRoundsLaws.{Opens, opened-entry, opening-reads, reads-opening, ballot-needs}
+use Rattle.delivery.proofs.OneRoundLaws.{entry, backing, by-counts, later-counts, value-among, blank-backing}
 
 module _ (L : Limits) (n : ℕ) (h : Store) (some : 1 ≤ n) where
   -- what is allowed in a round was allowed in each round before it, from round 1 on

@@ -1,16 +1,16 @@
 -- Laws of what is allowed from round to round, and of what is accepted by it. Assumes nothing.
-use Rattle.std.specs.Prelude.{◌==◌, not}
+use Rattle.std.specs.Prelude.{if◌then◌else◌, ◌==◌, not}
 use Prim.Native.Nat.{ℕ, zero, suc, ◌+◌, ◌≤◌, ◌<◌}
 use native.Mathlib.Omega.{arith}
 use native.Mathlib.Numerals.{add-one}
-use mathlib.Core.Path.{◌≡◌, refl, ap}
-use mathlib.Core.Bool.{true, false}
+use mathlib.Core.Path.{◌≡◌, refl, sym, ap, ◌∙◌}
+use mathlib.Core.Bool.{Bool, true, false}
 use mathlib.Core.Logic.{◌⊎◌}
 use Rattle.std.proofs.lemmas.Bool.Decides.{nat_tests}
 use Rattle.signer.specs.Log.{entry_of}
 use Rattle.delivery.specs.Limits.{Limits}
 use Rattle.delivery.specs.Delivered.{Store}
-use Rattle.delivery.specs.Acceptance.{says, opening_entry, ballot_entry, bears, opens, counts, counts_some, allowed_after, allowed, accepts_opening, accepts_ballot, accepts_some}
+use Rattle.delivery.specs.Acceptance.{says, opening_entry, ballot_entry, bears, backs, opens, counts, counts_some, allowed_after, allowed, accepts_opening, accepts_ballot, accepts_some, opened_entry}
 
 module _ (L : Limits) (n : ℕ) (h : Store) where
   -- in round 1 every value is allowed, and in a later one what the one before leaves
@@ -83,12 +83,33 @@ module _ (L : Limits) (n : ℕ) (h : Store) (r : ℕ) where
   unfolding accepts_some accepts_ballot counts_some says counts bears
   reads-accepted s w b = grind (arith, nat_tests)
 
-  -- the value of an entry of nothing or of the blank is not allowed
-  pub says-low : (x : ℕ) → x < 2 → says x (allowed L n h r) ≡ false
+  -- the entry of the accepted opening: the opening's, if that is of a value that is allowed
+  pub opened-allowed : opened_entry L n h r
+      ≡ (if says (opening_entry L n h r) (allowed L n h r) then opening_entry L n h r else 0)
+  unfolding opened_entry accepts_opening opens says
+  opened-allowed = grind (arith, nat_tests, allowed-blank L n h r)
+
+  pub opened-low : (x : ℕ) → x ≡ opening_entry L n h r → x < 2 → 0 ≡ opened_entry L n h r
   unfolding says
-  says-low x l = grind (arith, allowed-blank L n h r)
+  opened-low x e l = grind (arith, opened-allowed, allowed-blank L n h r)
+
+  pub opened-sent : (opened_entry L n h r ≡ 0) ⊎ (opened_entry L n h r ≡ opening_entry L n h r)
+  opened-sent = grind (arith, opened-allowed)
+
+  pub opened-found : (x y : ℕ) (p : ℕ → Bool) → x ≡ opening_entry L n h r → p ≡ allowed L n h r
+      → y ≡ (if says x p then x else 0) → y ≡ opened_entry L n h r
+  opened-found x y p e f g = rw (e, f) at g ∙ sym opened-allowed
+
+  pub opened-entry : (w : ℕ) → accepts_opening L n h r w ≡ (opened_entry L n h r == entry_of w)
+  unfolding accepts_opening opens says
+  opened-entry w = grind (arith, nat_tests, opened-allowed, allowed-blank L n h r)
+
+  -- and what the accepted opening bears, an accepted ballot bears as soon as a ballot does
+  pub opened-backs : (s : ℕ) → says (opened_entry L n h r) (accepts_ballot L n h r s) ≡ backs L h r (opened_entry L n h r) s
+  unfolding says backs accepts_ballot counts accepts_opening
+  opened-backs s = grind (arith, nat_tests, opened-entry)
 
 -- for the functions
-pub ruleset accepts = (allowed-blank)
+pub ruleset openings = (opened-low, opened-found, opened-entry)
 
-pub ruleset allows = (says-low)
+pub ruleset allowed_blank = (allowed-blank)

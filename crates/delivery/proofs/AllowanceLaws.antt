@@ -4,22 +4,28 @@ use Prim.Native.Nat.{ℕ, zero, suc, ◌+◌, ◌-◌, ◌≤◌, ◌<◌, min}
 use native.Mathlib.Omega.{arith}
 use native.Mathlib.Numerals.{add-one}
 use mathlib.Core.Path.{◌≡◌, refl, sym, ap, fun_ext, ◌∙◌}
-use mathlib.Core.Bool.{Bool, true}
-use mathlib.Core.Logic.{◌⊎◌}
+use mathlib.Core.Bool.{Bool, true, false}
 use Rattle.std.specs.Prelude.{if◌then◌else◌, nat_le, ◌||◌}
+use Rattle.std.proofs.lemmas.Bool.{false_from_ne_true}
 use Rattle.std.proofs.lemmas.Bool.Decides.{nat_tests}
-use Rattle.signer.specs.Log.{entry_of}
-use Rattle.delivery.specs.Counting.{plus, count_in, count_of, every_of, some_choice}
+use Rattle.signer.specs.Log.{is_identifier, entry_of}
+use Rattle.delivery.specs.Counting.{count_in, count_of, every_of, some_choice}
 use Rattle.delivery.specs.Limits.{Limits}
 use Rattle.delivery.specs.Bus.{quorum, overlap}
-use Rattle.delivery.specs.Delivered.{Store}
+use Rattle.delivery.specs.Rounds.{is_round, identifier_of}
+use Rattle.delivery.specs.Delivered.{Store, heard}
+use Rattle.delivery.specs.declared.delivered.Delivered.{Delivered}
+use Rattle.delivery.specs.declared.round.Phase.TheVariants.{Ballot}
 use Rattle.delivery.specs.Acceptance.{says, opening_entry, bears, backs, allowed_after, allowed, accepts_ballot, accepts_some}
 use Rattle.delivery.specs.Private.{lets}
 use Rattle.delivery.specs.declared.allowance.Allowance.{Allowance}
 use Rattle.delivery.specs.declared.allowance.Allowance.TheVariants.{Nothing, Every, Only}
-use Rattle.delivery.proofs.CountLaws.{overlap-pos, count-cong, count-or, find}
-use Rattle.delivery.proofs.AllRoundsLaws.{allowed-blank, ballot-needs}
-use Rattle.delivery.proofs.OneRoundLaws.{entry, blank, backing, opened-entry, some-either, value-among, backing-few, by-counts, counted, later-counts}
+use Rattle.signer.proofs.FromOneLaws.{within_low, within-high}
+use Rattle.delivery.proofs.RoundLaws.{identifier-none}
+use Rattle.delivery.proofs.DeliveredLaws.{heard-outside}
+use Rattle.delivery.proofs.CountLaws.{count-none, overlap-le, overlap-pos, count-cong, count-or, find}
+use Rattle.delivery.proofs.AllRoundsLaws.{allowed-blank, opened-entry, opened-found, opening-reads, ballot-needs}
+use Rattle.delivery.proofs.OneRoundLaws.{entry, blank, backing, some-either, value-among, backing-few, by-counts, counted, later-counts}
 
 -- where q boards or more have an accepted ballot
 module _ (L : Limits) (n : ℕ) (h : Store) (r : ℕ) (some : 1 ≤ n) (low : 1 ≤ r)
@@ -55,14 +61,12 @@ module _ (L : Limits) (n : ℕ) (h : Store) (r : ℕ) (some : 1 ≤ n) (low : 1 
       let k = backing-few L n h r (λ (s : ℕ). true) (overlap n) (overlap-pos n some) f in
       rw next (grind (arith, nat_tests, voiced, k, allowed-blank L n h r))
 
--- what a round leaves of a by its counts, where x is the entry of the opening that was sent and e that of the one that
--- counts
-settled : (a : Allowance) (q k x e b c w : ℕ) → 1 ≤ k → (e ≡ x) ⊎ ((e ≡ 0) × (c ≡ 0))
-    → (e ≡ entry_of w → lets a w ≡ true)
+-- what a round leaves of a by its counts, where x is the entry of the opening that counts
+settled : (a : Allowance) (q k x b c w : ℕ) → 1 ≤ k → (x ≡ entry_of w → lets a w ≡ true)
     → lets (if nat_le q (b + min c (k - 1)) then a else (if nat_le q (b + c) then Only x else Nothing)) w
-    ≡ by-counts q k e b c w (lets a w)
+    ≡ by-counts q k x b c w (lets a w)
 unfolding by-counts lets
-settled a q k x e b c w some s p = grind (arith, nat_tests)
+settled a q k x b c w some p = grind (arith, nat_tests)
 
 module _ (L : Limits) (n : ℕ) (h : Store) where
   -- in no round nothing is allowed, in the first every value
@@ -84,35 +88,48 @@ module _ (L : Limits) (n : ℕ) (h : Store) where
   pub every-nobody : (r : ℕ) → n ≡ 0 → (r ≡ 0 → ⊥) → lets Every ≡ allowed L n h r
   every-nobody r e f = fun_ext (λ w. rw e (grind (arith, nobody r w)))
 
-  -- no ballot backs entry 0
-  unbacked : (r n : ℕ) → count_in n (backs L h r 0) ≡ 0
-  unfolding count_in plus backs says
-  unbacked r zero = refl
-  unbacked r (suc n) = unbacked r n
-
-  -- one round of the pass: by the allowance a, the opening's entry, b blank ballots and c for its value if that is allowed,
-  -- a' is left
-  pub pass-turn : (a a' : Allowance) (r b c : ℕ) → lets a ≡ allowed L n h r → (n ≡ 0 → ⊥) → 1 ≤ r
-      → b ≡ count_in n (backs L h r (entry_of 0))
-      → c ≡ (if says (opening_entry L n h r) (lets a) then count_in n (backs L h r (opening_entry L n h r)) else 0)
+  -- one round of the pass: by the allowance a, the entry x of the opening if that counts, b blank ballots and c for its
+  -- value, a' is left
+  pub pass-turn : (a a' : Allowance) (r x b c : ℕ) → lets a ≡ allowed L n h r → (n ≡ 0 → ⊥) → 1 ≤ r
+      → x ≡ (if says (opening_entry L n h r) (lets a) then opening_entry L n h r else 0)
+      → b ≡ count_in n (bears L h r 0)
+      → c ≡ count_in n (backs L h r x)
       → a'
       ≡ (if nat_le (quorum n) (b + min c (overlap n - 1))
       then a
-      else (if nat_le (quorum n) (b + c) then Only (opening_entry L n h r) else Nothing))
+      else (if nat_le (quorum n) (b + c) then Only x else Nothing))
       → lets a' ≡ allowed L n h (r + 1)
-  unfolding entry says backs
-  pass-turn a a' r b c f some low blanks backers left =
-      let sent = opening_entry L n h r in
-      let says-same : says sent (lets a) ≡ says sent (allowed L n h r) = ap (says sent) f in
-      let backed : c ≡ backing L n h r = grind (arith, unbacked r n) in
-      let counting : (entry L n h r ≡ sent) ⊎ ((entry L n h r ≡ 0) × (c ≡ 0)) = grind arith in
+  pass-turn a a' r x b c f some low opens blanks backers left =
+      let same = opened-found L n h r (opening_entry L n h r) x (lets a) refl f opens in
       fun_ext
       (λ w.
-      let same : lets a w ≡ allowed L n h r w = ap (λ (p : ℕ → Bool). p w) f in
-      let passes : entry L n h r ≡ entry_of w → lets a w ≡ true = λ e. grind (arith, e) in
-      let next = settled a (quorum n) (overlap n) sent (entry L n h r) b c w (omega (arith, some)) counting passes in
+      let same-lets : lets a w ≡ allowed L n h r w = ap (λ (p : ℕ → Bool). p w) f in
+      let accepted = λ (e : x ≡ entry_of w). opening-reads L n h r w (grind (arith, nat_tests, opened-entry L n h r w)) in
+      let passes : x ≡ entry_of w → lets a w ≡ true = λ e. same-lets ∙ (accepted e).permitted in
+      let next = settled a (quorum n) (overlap n) x b c w (omega (arith, some)) passes in
       let later = later-counts L n h r w low (omega (arith, some)) in
       rw left (next ∙ (cc same) ∙ sym later))
 
+-- after the last round no ballot is heard, so in the round after that nothing is allowed
+late : (L : Limits) (n : ℕ) (d : Delivered) (r w : ℕ) → (n ≡ 0 → ⊥) → 1 ≤ r → L.rounds < r
+    → allowed L n (heard L d) (r + 1) w ≡ false
+unfolding by-counts backs bears says
+late L n d r w some low l =
+    let none = false_from_ne_true (is_round L r) (λ t. omega (arith, within-high L.rounds r t)) in
+    let i = identifier_of L Ballot r in
+    let outside = false_from_ne_true (is_identifier L.identifiers i) (λ t. omega (arith, within_low L.identifiers i t, identifier-none L Ballot r none)) in
+    let silent = λ (s : ℕ). heard-outside L d s i outside in
+    let blanks = count-none n (bears L (heard L d) r 0) (λ s a b. grind (arith, nat_tests, silent s)) in
+    let backs = count-none n (backs L (heard L d) r (entry L n (heard L d) r)) (λ s a b. grind (arith, nat_tests, silent s)) in
+    let counts = later-counts L n (heard L d) r w low (omega (arith, some)) in
+    grind (arith, nat_tests, counts, blanks, backs, overlap-pos n, overlap-le n)
+
+pub nothing-late : (L : Limits) (n : ℕ) (d : Delivered) (r : ℕ) → (n ≡ 0 → ⊥) → L.rounds + 1 < r
+    → lets Nothing ≡ allowed L n (heard L d) r
+unfolding lets
+nothing-late L n d r some l =
+    let e : r ≡ (r - 1) + 1 = omega arith in
+    rw e (fun_ext (λ w. sym (late L n d (r - 1) w some (omega arith) (omega arith))))
+
 -- for the functions
-pub ruleset allowance = (nothing_before, every-nobody, every_first, pass-turn)
+pub ruleset allowance = (nothing_before, every-nobody, nothing-late, every_first, pass-turn)

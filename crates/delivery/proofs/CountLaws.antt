@@ -1,10 +1,11 @@
 -- Laws of counting among 1 to n. Assumes nothing.
 use Rattle.std.specs.Prelude.{◌==◌, ◌&&◌, ◌||◌}
-use Prim.Native.Nat.{ℕ, zero, suc, ◌+◌, ◌*◌, ◌≤◌, ◌<◌}
+use Prim.Native.Nat.{ℕ, zero, suc, ◌+◌, ◌*◌, ◌≤◌, ◌<◌, min}
 use mathlib.Core.Path.{◌≡◌, refl}
 use mathlib.Core.Bool.{Bool, true, false, true≢false}
 use mathlib.Core.Logic.{⊎_elim}
 use native.Mathlib.Omega.{arith}
+use native.Mathlib.Numerals.{add-one}
 use Rattle.std.proofs.lemmas.Bool.{cases_Bool}
 use Rattle.std.proofs.lemmas.Bool.Decides.{nat_tests}
 use Rattle.delivery.specs.Counting.{plus, count_in, every_in}
@@ -27,6 +28,26 @@ pub count-le : (n : ℕ) (p : ℕ → Bool) → count_in n p ≤ n
 unfolding count_in plus
 count-le zero p = omega arith
 count-le (suc n) p = grind (arith, count-le n p)
+
+-- none, where none passes; and what fails above b makes no more of them there
+pub count-none : (n : ℕ) (p : ℕ → Bool) → ((k : ℕ) → 1 ≤ k → k ≤ n → p k ≡ false) → count_in n p ≡ 0
+unfolding count_in plus
+count-none zero p h = refl
+count-none (suc n) p h = grind (arith, h (suc n), count-none n p (λ k l u. h k l (omega arith)))
+
+pub count_beyond : (n b : ℕ) (p : ℕ → Bool) → ((k : ℕ) → b < k → p k ≡ false) → count_in n p ≡ count_in (min n b) p
+unfolding count_in plus
+count_beyond zero b p h = grind arith
+count_beyond (suc n) b p h = grind (arith, h (suc n), count_beyond n b p h)
+
+-- a turn of a loop that counts takes the next in, or leaves it out
+pub count-take : (k c : ℕ) (p : ℕ → Bool) → c ≡ count_in k p → p (k + 1) ≡ true → c + 1 ≡ count_in (k + 1) p
+unfolding count_in plus
+count-take k c p e h = grind (arith, add-one k)
+
+pub count-leave : (k c : ℕ) (p : ℕ → Bool) → c ≡ count_in k p → p (k + 1) ≡ false → c ≡ count_in (k + 1) p
+unfolding count_in plus
+count-leave k c p e h = grind (arith, add-one k)
 
 -- all of 1 to n pass: each does, and exactly if the count is n
 pub every-reads : (n : ℕ) (p : ℕ → Bool) → every_in n p ≡ true → (k : ℕ) → 1 ≤ k → k ≤ n → p k ≡ true

@@ -73,7 +73,7 @@ copies = (refl, refl, refl, refl)
 abbrev Tallied : ℕ → Delivered → ℕ → ℕ → Allowance → Type 0
 Tallied n d b c a =
     (opening_entry limits n (heard limits d) 1 ≡ 10)
-    × (b ≡ count_in n (backs limits (heard limits d) 1 1))
+    × (b ≡ count_in n (bears limits (heard limits d) 1 0))
     × (c ≡ count_in n (backs limits (heard limits d) 1 10))
     × (a
     ≡ (if nat_le (quorum n) (b + min c (overlap n - 1)) then Every else (if nat_le (quorum n) (b + c) then Only 10 else Nothing)))
@@ -83,7 +83,7 @@ second : (n : ℕ) (d : Delivered) (b c : ℕ) (a : Allowance) → Tallied n d b
 unfolding says lets
 second n d b c a k l w =
     let h = heard limits d in
-    let next = pass-turn limits n h Every a 1 b c (every_first limits n h) l (omega arith) k.1 (rw k.0 k.2) (rw k.0 k.3) in
+    let next = pass-turn limits n h Every a 1 10 b c (every_first limits n h) l (omega arith) (rw k.0 refl) k.1 k.2 k.3 in
     ap (λ (p : ℕ → Bool). p w) (sym next)
 
 tallies : (Tallied 3 nine-blank 1 1 (Only 10))

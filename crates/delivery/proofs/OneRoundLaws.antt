@@ -8,7 +8,7 @@ use mathlib.Core.Bool.{Bool, true}
 use mathlib.Core.Logic.{◌⊎◌, inl, inr, ⊎_elim}
 use mathlib.Core.List.{List}
 use lib.ListN.{length}
-use Rattle.std.specs.Prelude.{if◌then◌else◌, ◌==◌, nat_le, ◌&&◌, ◌||◌, not}
+use Rattle.std.specs.Prelude.{◌==◌, nat_le, ◌&&◌, ◌||◌, not}
 use Rattle.std.specs.Cmp.{both_ways}
 use Rattle.std.proofs.lemmas.Bool.Decides.{nat_tests}
 use Rattle.signer.specs.Log.{entry_of}
@@ -16,10 +16,10 @@ use Rattle.delivery.specs.Counting.{count_in, count_of, every_of}
 use Rattle.delivery.specs.Limits.{Limits}
 use Rattle.delivery.specs.Bus.{quorum, overlap}
 use Rattle.delivery.specs.Delivered.{Store}
-use Rattle.delivery.specs.Acceptance.{says, opening_entry, bears, backs, divided, opens, counts, counts_some, allowed_after, allowed, accepts_opening, accepts_ballot, accepts_some}
+use Rattle.delivery.specs.Acceptance.{says, bears, backs, divided, counts, counts_some, allowed_after, allowed, accepts_opening, accepts_ballot, accepts_some, opened_entry}
 use Rattle.delivery.proofs.CountLaws.{count-le, count-cong, count-mono, count-or, find, every-reads, reads-every, overlap-pos}
 use Rattle.delivery.proofs.ChoiceLaws.{picked, picked-some, some-picked, length-picked, count-picked, every-picked, first, count-first, count-apart}
-use Rattle.delivery.proofs.AllRoundsLaws.{allowed-next, allowed-blank, accepted-reads, reads-accepted}
+use Rattle.delivery.proofs.AllRoundsLaws.{allowed-next, allowed-blank, opened-allowed, opened-entry, accepted-reads, reads-accepted}
 
 -- a ballot backs the entry of w exactly if it bears w
 pub backs-value : (L : Limits) (h : Store) (r w s : ℕ) → backs L h r (entry_of w) s ≡ bears L h r w s
@@ -125,9 +125,9 @@ module _ (L : Limits) (n : ℕ) (h : Store) (r : ℕ) where
         let x = picked-some n (carries w) p (reads-carries w p q l) in
         rw (allowed-next L n h r w low) (grind (arith, nat_tests))
 
-  -- the entry of the opening that counts, or 0 where none does; how many ballots are blank, and how many bear its value
-  unfoldable pub entry : ℕ
-  entry = if says (opening_entry L n h r) (allowed L n h r) then opening_entry L n h r else 0
+  -- the entry of the accepted opening, or 0 where none is; how many ballots are blank, and how many bear its value
+  abbrev pub entry : ℕ
+  entry = opened_entry L n h r
 
   abbrev pub blank : ℕ
   blank = count_in n (bears L h r 0)
@@ -143,18 +143,14 @@ module _ (L : Limits) (n : ℕ) (h : Store) (r : ℕ) where
   abbrev backing-among : (ℕ → Bool) → ℕ
   backing-among p = count_in n (λ (s : ℕ). p s && backs L h r entry s)
 
-  pub opened-entry : (w : ℕ) → accepts_opening L n h r w ≡ (entry == entry_of w)
-  unfolding entry says accepts_opening opens
-  opened-entry w = grind (arith, nat_tests, allowed-blank L n h r)
-
   -- the accepted ballots are the blank ones and those for the opening's value, which are apart
   pub some-either : (s : ℕ) → accepts_some L n h r s ≡ (bears L h r 0 s || backs L h r entry s)
   unfolding accepts_some accepts_opening counts_some counts says backs bears
-  some-either s = grind (arith, nat_tests, opened-entry)
+  some-either s = grind (arith, nat_tests, opened-entry L n h r)
 
   entry-some : entry ≡ 1 → ⊥
-  unfolding entry says
-  entry-some e = grind (arith, allowed-blank L n h r)
+  unfolding says
+  entry-some e = grind (arith, opened-allowed L n h r, allowed-blank L n h r)
 
   apart : (s : ℕ) → bears L h r 0 s ≡ true → backs L h r entry s ≡ true → ⊥
   unfolding says backs bears
@@ -170,11 +166,11 @@ module _ (L : Limits) (n : ℕ) (h : Store) (r : ℕ) where
 
   value-backs : (w s : ℕ) → (w ≡ 0 → ⊥) → accepts_ballot L n h r s w ≡ (entry == entry_of w && backs L h r entry s)
   unfolding accepts_ballot accepts_opening counts says backs bears
-  value-backs w s z = grind (arith, nat_tests, opened-entry)
+  value-backs w s z = grind (arith, nat_tests, opened-entry L n h r)
 
   pub value-among : (p : ℕ → Bool) (w : ℕ) → (w ≡ 0 → ⊥) → accepts_opening L n h r w ≡ true
       → among p w ≡ backing-among p
-  value-among p w z o = count-cong n _ _ (λ s l u. grind (arith, value-backs w s, opened-entry w))
+  value-among p w z o = count-cong n _ _ (λ s l u. grind (arith, value-backs w s, opened-entry L n h r w))
 
   -- where each value stands fewer than k times among them, so does the opening's
   pub backing-few : (p : ℕ → Bool) (k : ℕ) → 1 ≤ k → Below p k → backing-among p < k
@@ -187,7 +183,7 @@ module _ (L : Limits) (n : ℕ) (h : Store) (r : ℕ) where
           let s = find n (λ (s : ℕ). p s && backs L h r entry s) m in
           let v = entry - 1 in
           let z : v ≡ 0 → ⊥ = λ e. grind (arith, s.3, entry-some) in
-          let o : accepts_opening L n h r v ≡ true = grind (arith, nat_tests, s.3, opened-entry v) in
+          let o : accepts_opening L n h r v ≡ true = grind (arith, nat_tests, s.3, opened-entry L n h r v) in
           omega (arith, f v z, value-among p v z o)
 
   pub leaves-counts : (w : ℕ) (p : ℕ → Bool) → 1 ≤ n → (w ≡ 0 → ⊥) → quorum n ≤ count_in n p → Leaves w p
@@ -198,7 +194,7 @@ module _ (L : Limits) (n : ℕ) (h : Store) (r : ℕ) where
       (λ (m : overlap n ≤ among p w).
       let s = find n (λ (s : ℕ). p s && accepts_ballot L n h r s w) (omega (arith, m, overlap-pos n some)) in
       let o : accepts_opening L n h r w ≡ true = grind (arith, nat_tests, s.3) in
-      grind (arith, nat_tests, size, most, value-among p w z o, opened-entry w))
+      grind (arith, nat_tests, size, most, value-among p w z o, opened-entry L n h r w))
       (λ d. grind (arith, nat_tests, d.1, size, most, backing-few p (overlap n) (overlap-pos n some) d.0))
       l.reason
     where
@@ -248,7 +244,7 @@ module _ (L : Limits) (n : ℕ) (h : Store) (r : ℕ) where
         reason : (overlap n ≤ among p w) ⊎ (Below p (overlap n) × (allowed L n h r w ≡ true))
         reason =
             ⊎_elim
-            (λ t. inl (omega (arith, back, t.1, value-among p w z (grind (arith, nat_tests, t.0, opened-entry w)))))
+            (λ t. inl (omega (arith, back, t.1, value-among p w z (grind (arith, nat_tests, t.0, opened-entry L n h r w)))))
             (λ t. inr (λ v y. omega (arith, t.1, few v y), t.0))
             t
 

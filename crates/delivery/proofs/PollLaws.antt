@@ -1,25 +1,27 @@
 -- The boards whose ballots bear something, and whose are accepted, as the program collects them. Assumes nothing.
-use Rattle.std.specs.Prelude.{◌==◌, ◌||◌}
-use Prim.Native.Nat.{ℕ, ◌≤◌, min, ◌^◌, ◌<◌}
+use Rattle.std.specs.Prelude.{◌==◌, ◌&&◌, ◌||◌, not}
+use Prim.Native.Nat.{ℕ, ◌≤◌, min, ◌<◌}
 use native.Mathlib.Omega.{arith}
-use mathlib.Core.Path.{◌≡◌, sym, ◌∙◌}
-use mathlib.Core.Bool.{true, false}
+use mathlib.Core.Path.{◌≡◌, refl, sym, ◌∙◌}
+use mathlib.Core.Bool.{false}
+use mathlib.Core.Logic.{inl}
 use mathlib.Core.List.{List}
 use Rattle.std.proofs.lemmas.Bool.{false_from_ne_true}
 use Rattle.std.proofs.lemmas.Bool.Decides.{nat_tests}
 use Rattle.signer.specs.Log.{entry_of}
+use Rattle.delivery.specs.Counting.{count_in}
 use Rattle.delivery.specs.Limits.{Limits}
 use Rattle.delivery.specs.Bus.{is_board}
 use Rattle.delivery.specs.Rounds.{identifier_of}
 use Rattle.delivery.specs.Sets.{set_of, bits, union}
-use Rattle.delivery.specs.Delivered.{heard_in}
-use Rattle.delivery.specs.Acceptance.{says, opening_entry, ballot_entry, bears, backs, counts, opens, counts_some, allowed, accepts_some}
+use Rattle.delivery.specs.Delivered.{Store, heard_in}
+use Rattle.delivery.specs.Acceptance.{says, ballot_entry, bears, backs, counts, counts_some, accepts_opening, accepts_ballot, accepts_some, opened_entry, tally_of, bearers}
 use Rattle.delivery.specs.declared.round.Phase.TheVariants.{Ballot}
 use Rattle.signer.proofs.FromOneLaws.{within-high}
-use Rattle.delivery.proofs.SetLaws.{union-sets, set-none, set-take, set-cong, set_beyond, set-fits}
+use Rattle.delivery.proofs.CountLaws.{count-le, count-take, count-leave, count_beyond}
+use Rattle.delivery.proofs.SetLaws.{union-sets, set-none, set-take, set-leave, set-cong, set_beyond, set-fits}
 use Rattle.delivery.proofs.DeliveredLaws.{heard-nobody}
-use Rattle.delivery.proofs.AllRoundsLaws.{ballot-sent, ballot-unopened}
-use Rattle.delivery.proofs.OneRoundLaws.{backs-value}
+use Rattle.delivery.proofs.AllRoundsLaws.{ballot-sent, ballot-unopened, opened-backs, opened-entry}
 
 module _ (L : Limits) (es : List ℕ) (r : ℕ) where
   -- a number that no board can have bears nothing
@@ -28,41 +30,105 @@ module _ (L : Limits) (es : List ℕ) (r : ℕ) where
       let none = false_from_ne_true (is_board L s) (λ b. omega (arith, within-high L.boards s b)) in
       heard-nobody L es s (identifier_of L Ballot r) none
 
-  -- a ballot backs the entry x, which is not 0, exactly if its entry is x
-  pub backs-test : (x s i : ℕ) → (x ≡ 0 → ⊥) → i ≡ identifier_of L Ballot r
-      → backs L (heard_in L es) r x s ≡ (heard_in L es s i == x)
-  unfolding backs says bears
-  backs-test x s i z e = grind (arith, nat_tests)
+  -- a ballot is blank, or backs the entry x, exactly if its entry is so
+  pub blank-test : (s i : ℕ) → i ≡ identifier_of L Ballot r
+      → bears L (heard_in L es) r 0 s ≡ (heard_in L es s i == entry_of 0)
+  unfolding bears
+  blank-test s i e = grind (arith, nat_tests)
 
-  -- so a search among the boards that there can be finds all of 1 to n whose ballots have an entry
-  pub bearing-found : (n x : ℕ) → (x ≡ 0 → ⊥)
+  pub backs-test : (x s i : ℕ) → i ≡ identifier_of L Ballot r
+      → backs L (heard_in L es) r x s ≡ (heard_in L es s i == x && not (x == 0))
+  unfolding backs says bears
+  backs-test x s i e = grind (arith, nat_tests)
+
+  -- so a search among the boards that there can be finds all of 1 to n whose ballots are so
+  pub blank-found : (n : ℕ)
+      → set_of (min n L.boards) (bears L (heard_in L es) r 0) ≡ set_of n (bears L (heard_in L es) r 0)
+  unfolding bears
+  blank-found n =
+      sym (set_beyond n L.boards (bears L (heard_in L es) r 0) (λ s l. grind (arith, nat_tests, silent s l)))
+
+  pub backs-found : (n x : ℕ)
       → set_of (min n L.boards) (backs L (heard_in L es) r x) ≡ set_of n (backs L (heard_in L es) r x)
   unfolding backs says bears
-  bearing-found n x z =
+  backs-found n x =
       sym (set_beyond n L.boards (backs L (heard_in L es) r x) (λ s l. grind (arith, nat_tests, silent s l)))
 
-  -- and two such sets, joined, fit into one
-  pub bearing-fits : (n x : ℕ) → L.boards ≤ bits
-      → set_of n (λ (s : ℕ). backs L (heard_in L es) r 1 s || backs L (heard_in L es) r x s) < 2 ^ bits
+  pub blank-counted : (n : ℕ)
+      → count_in (min n L.boards) (bears L (heard_in L es) r 0) ≡ count_in n (bears L (heard_in L es) r 0)
+  unfolding bears
+  blank-counted n =
+      sym (count_beyond n L.boards (bears L (heard_in L es) r 0) (λ s l. grind (arith, nat_tests, silent s l)))
+
+  pub backs-counted : (n x : ℕ)
+      → count_in (min n L.boards) (backs L (heard_in L es) r x) ≡ count_in n (backs L (heard_in L es) r x)
   unfolding backs says bears
-  bearing-fits n x l = set-fits n L.boards _ (λ s g. grind (arith, nat_tests, silent s g)) l
+  backs-counted n x =
+      sym (count_beyond n L.boards (backs L (heard_in L es) r x) (λ s l. grind (arith, nat_tests, silent s l)))
 
--- which are those of the accepted ballots, where the opening's value is allowed, and else only the blank ones
+-- what is found is accepted, where the opening's entry is that of the accepted one
+module _ (L : Limits) (n : ℕ) (h : Store) (r : ℕ) where
+  pub blank-accepted : set_of n (bears L h r 0) ≡ set_of n (λ (s : ℕ). accepts_ballot L n h r s 0)
+  blank-accepted = set-cong n _ _ (λ s a b. sym (ballot-sent L n h r s 0 (inl refl)))
+
+  pub backing-accepted : (x : ℕ) → x ≡ opened_entry L n h r
+      → set_of n (backs L h r x) ≡ set_of n (λ (s : ℕ). says (opened_entry L n h r) (accepts_ballot L n h r s))
+  backing-accepted x e = rw e (set-cong n _ _ (λ s a b. sym (opened-backs L n h r s)))
+
+  blanks : (w : ℕ) → w ≡ 0
+      → set_of n (λ (s : ℕ). accepts_ballot L n h r s 0) ≡ set_of n (λ (s : ℕ). accepts_ballot L n h r s w)
+  blanks w e = rw e refl
+
+  pub backing-bears : (w : ℕ) → opened_entry L n h r ≡ entry_of w
+      → set_of n (λ (s : ℕ). says (opened_entry L n h r) (accepts_ballot L n h r s)) ≡ set_of n (λ (s : ℕ). accepts_ballot L n h r s w)
+  unfolding says
+  backing-bears w e = rw e refl
+
+  -- so of the tally, the boards whose ballots bear a value are those whose accepted ballots do
+  pub bearers-tallied : (w : ℕ)
+      → bearers (tally_of L n h r) w ≡ set_of n (λ (s : ℕ). accepts_ballot L n h r s w)
+  unfolding bearers
+  bearers-tallied w =
+      let none = λ (z : w ≡ 0 → ⊥) (f : accepts_opening L n h r w ≡ false).
+      set-none n (λ (s : ℕ). accepts_ballot L n h r s w) (λ s a b. ballot-unopened L n h r s w z f) in
+      grind (arith, nat_tests, blanks w, none, backing-bears w, opened-entry L n h r w)
+
 module _ (L : Limits) (es : List ℕ) (r n : ℕ) where
-  pub joined : (x : ℕ) → L.boards ≤ bits → x ≡ opening_entry L n (heard_in L es) r
-      → says x (allowed L n (heard_in L es) r) ≡ true
-      → union (set_of n (backs L (heard_in L es) r (entry_of 0))) (set_of n (backs L (heard_in L es) r x))
+  -- and those with a ballot are those with an accepted one
+  pub ballots-tallied : L.boards ≤ bits
+      → union (tally_of L n (heard_in L es) r).blank (tally_of L n (heard_in L es) r).backing
       ≡ set_of n (accepts_some L n (heard_in L es) r)
-  unfolding accepts_some counts_some counts opens says backs bears
-  joined x l e t =
-      union-sets n _ _ (bearing-fits L es r n x l) ∙ set-cong n _ _ (λ s a b. grind (arith, nat_tests))
+  unfolding says bears counts counts_some accepts_opening accepts_ballot accepts_some
+  ballots-tallied l =
+      let h = heard_in L es in
+      let fits = set-fits n L.boards _ (λ s g. none s g) l in
+      union-sets n _ _ fits ∙ set-cong n _ _ (λ s a b. either s)
+    where
+      either : (s : ℕ) → (accepts_ballot L n (heard_in L es) r s 0 || says (opened_entry L n (heard_in L es) r) (accepts_ballot L n (heard_in L es) r s))
+          ≡ accepts_some L n (heard_in L es) r s
+      either s = grind (arith, nat_tests, opened-backs L n (heard_in L es) r s, opened-entry L n (heard_in L es) r)
 
-  pub alone : says (opening_entry L n (heard_in L es) r) (allowed L n (heard_in L es) r) ≡ false
-      → set_of n (backs L (heard_in L es) r (entry_of 0)) ≡ set_of n (accepts_some L n (heard_in L es) r)
-  unfolding accepts_some counts_some counts opens says backs bears
-  alone f = set-cong n _ _ (λ s a b. grind (arith, nat_tests))
+      none : (s : ℕ) → L.boards < s
+          → (accepts_ballot L n (heard_in L es) r s 0 || says (opened_entry L n (heard_in L es) r) (accepts_ballot L n (heard_in L es) r s)) ≡ false
+      none s g = grind (arith, nat_tests, silent L es r s g)
 
 -- for the functions
-pub ruleset bearing = (set-none, bearing-found, backs-test, set-take)
+pub ruleset scanning = (
+  blank-test,
+  backs-test,
+  blank-found,
+  backs-found,
+  blank-counted,
+  backs-counted,
+  set-take,
+  set-leave,
+  count-take,
+  count-leave,
+  count-le,
+)
 
-pub ruleset backers = (set-none, backs-value, ballot-sent, ballot-unopened)
+pub ruleset tallied = (blank-accepted, backing-accepted)
+
+pub ruleset backers = (bearers-tallied)
+
+pub ruleset joined = (ballots-tallied)

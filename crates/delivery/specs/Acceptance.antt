@@ -1,12 +1,15 @@
 -- Document 01, "What a board accepts" ("valid" in the published vote), by a store of what it has delivered.
 use Rattle.std.specs.Prelude.{ℕ, zero, suc, Bool, false, List, length, ◌==◌, nat_lt, nat_le, ◌&&◌, ◌||◌, not}
+use Rattle.std.specs.Prelude.{if◌then◌else◌}
 use Rattle.signer.specs.Log.{entry_of}
 use Rattle.delivery.specs.Counting.{count_of, every_of, some_choice}
 use Rattle.delivery.specs.Limits.{Limits}
 use Rattle.delivery.specs.Bus.{quorum, overlap}
 use Rattle.delivery.specs.Rounds.{coordinator, identifier_of}
+use Rattle.delivery.specs.Sets.{set_of}
 use Rattle.delivery.specs.Delivered.{Store}
 use Rattle.delivery.specs.declared.delivered.Delivered.{Delivered}
+use Rattle.delivery.specs.declared.poll.Tally.{Tally}
 use Rattle.delivery.specs.declared.round.Phase.TheVariants.{Opening, Ballot}
 
 -- a round among n boards, as one board has heard it
@@ -91,3 +94,21 @@ module _ (L : Limits) (n : ℕ) (h : Store) where
   -- the board accepts a ballot of r from s
   unfoldable pub accepts_some : ℕ → ℕ → Bool
   accepts_some r s = counts_some L n h (allowed r) r s
+
+  -- the entry of the opening of r if the board accepts it; 0, which is none, if not
+  unfoldable pub opened_entry : ℕ → ℕ
+  opened_entry r = if says (opening_entry L n h r) (accepts_opening r) then opening_entry L n h r else 0
+
+  -- what it accepts of r: this opening, the boards of 1 to n with an accepted blank ballot, and those with an accepted
+  -- ballot for what the opening bears
+  abbrev pub tally_of : ℕ → Tally
+  tally_of r =
+      record {
+        opening = opened_entry r;
+        blank = set_of n (λ (s : ℕ). accepts_ballot r s 0);
+        backing = set_of n (λ (s : ℕ). says (opened_entry r) (accepts_ballot r s));
+      }
+
+-- of a tally, the boards whose ballots bear w
+unfoldable pub bearers : Tally → ℕ → ℕ
+bearers t w = if w == 0 then t.blank else (if t.opening == entry_of w then t.backing else 0)

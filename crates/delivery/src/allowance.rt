@@ -34,6 +34,16 @@ impl Allowance {
         }
     }
 
+    // The entry of an opening that bears a value that is allowed; 0, which is none, for any other.
+    pub(crate) fn opened(self, opening: u32) -> u32
+        ensures { result ≡ (if says opening (lets self) then opening else 0) }
+    {
+        if self.allows(opening) {
+            return opening;
+        }
+        0
+    }
+
     // What is allowed after a round of n boards with so many blank ballots and so many for the opening's value.
     pub(crate) fn settled(self, n: u8, opening: u32, blank: u8, backing: u8) -> Allowance
         ensures { result ≡ (if nat_le (quorum n) (blank + min backing (overlap n - 1)) then self else (if nat_le (quorum n) (blank + backing) then Only opening else Nothing)) }

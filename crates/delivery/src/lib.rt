@@ -14,6 +14,6 @@ mod set;
 pub use claims::{every_copy, every_limit, every_store, worked_examples};
 pub use delivered::Delivered;
 pub use owed::{Copies, Owed};
-pub use poll::Poll;
+pub use poll::{Poll, Tally};
 pub use round::{Phase, Round};
 pub use set::BoardSet;

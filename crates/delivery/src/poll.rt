@@ -1,9 +1,9 @@
 ghost use Rattle.std.specs.Prelude.{ℕ, ◌≡◌};
 ghost use Rattle.delivery.specs.Counting.{count_in};
 ghost use Rattle.delivery.specs.Limits.{limits};
-ghost use Rattle.delivery.specs.Sets.{set_of};
+ghost use Rattle.delivery.specs.Sets.{set_of, union};
 ghost use Rattle.delivery.specs.Delivered.{heard};
-ghost use Rattle.delivery.specs.Acceptance.{says, opening_entry, backs, allowed, accepts_opening, accepts_ballot, accepts_some};
+ghost use Rattle.delivery.specs.Acceptance.{says, opening_entry, bears, backs, allowed, accepts_opening, accepts_ballot, accepts_some, opened_entry, tally_of, bearers};
 ghost use Rattle.delivery.specs.Private.{lets};
 
 use crate::allowance::Allowance;
@@ -12,6 +12,47 @@ use crate::round::{Phase, Round};
 use crate::set::BoardSet;
 use signer::Log;
 use std::marker::Model;
+
+// What one board accepts of a round: the entry of the opening, 0 where none is accepted; the boards with an accepted blank
+// ballot; and those with an accepted ballot for what the opening bears.
+#[derive(Clone, Copy, Debug, PartialEq, Eq)]
+pub struct Tally {
+    pub opening: u32,
+    pub blank: BoardSet,
+    pub backing: BoardSet,
+}
+
+impl Tally {
+    // The boards with an accepted ballot, whatever it bears.
+    pub fn ballots(&self) -> BoardSet
+        ensures { result ≡ union self.now.blank self.now.backing }
+    {
+        self.blank.union(self.backing)
+    }
+
+    // The boards whose accepted ballots bear a value.
+    #[tactic(auto, unfolding(crate::specs::Acceptance::bearers))]
+    pub fn ballots_for(&self, value: u16) -> BoardSet
+        ensures { result ≡ bearers self.now value }
+    {
+        if value == Log::BLANK {
+            return self.blank;
+        }
+        if self.opening == Log::entry_of(value) {
+            return self.backing;
+        }
+        BoardSet::empty()
+    }
+}
+
+// What one scan of a round's ballots finds: the boards, and how many they are, which is all that the pass over the earlier
+// rounds asks for. They are counted on the way: it takes longer to count the bits of a set.
+#[derive(Clone, Copy)]
+struct Scan {
+    tally: Tally,
+    blank: u8,
+    backing: u8,
+}
 
 // A round among n boards, as one board has heard it.
 #[derive(Drop)]
@@ -45,33 +86,49 @@ impl Delivered {
 // Entries stay numbers here, as in `Log`. Each contract names the parts of a `Heard` that its definition takes, which are
 // not the same in two of three, so one word for them would be no plainer.
 impl<'a> Poll<'a> {
-    // The boards of 1 to n whose ballot of the round has this entry; no ballot has entry 0. The bench collects sets by
-    // such loops too: one public call for all would take the test as a closure, and so ask something of its callers,
-    // which a rule of the project forbids.
-    #[tactic(auto, using(crate::proofs::PollLaws::bearing), unfolding(crate::specs::Sets::set_of, crate::specs::Acceptance::backs, crate::specs::Acceptance::says))]
-    fn bearing(&self, entry: u32) -> BoardSet
-        ensures { result ≡ set_of self.now.n (backs limits (heard limits self.now.delivered) self.now.round entry) }
+    // One look at each ballot of the round: which are blank, and which have this entry; no ballot has entry 0. The bench
+    // collects sets by such loops too: one public call for all would take the test as a closure, and so ask something of
+    // its callers, which a rule of the project forbids.
+    #[inline(always)]
+    #[tactic(auto, using(crate::proofs::PollLaws::scanning), unfolding(crate::specs::Sets::set_of, crate::specs::Counting::count_in))]
+    fn scan(&self, opening: u32) -> Scan
+        ensures tally { result.tally ≡ record { opening = opening; blank = set_of self.now.n (bears limits (heard limits self.now.delivered) self.now.round 0); backing = set_of self.now.n (backs limits (heard limits self.now.delivered) self.now.round opening) } }
+        ensures blank { result.blank ≡ count_in self.now.n (bears limits (heard limits self.now.delivered) self.now.round 0) }
+        ensures backing { result.backing ≡ count_in self.now.n (backs limits (heard limits self.now.delivered) self.now.round opening) }
     {
-        let mut bearing = BoardSet::empty();
-        if entry == 0 {
-            return bearing;
-        }
         let id = self.round.identifier(Phase::Ballot);
+        let mut blank = BoardSet::empty();
+        let mut backing = BoardSet::empty();
+        let mut blank_count = 0;
+        let mut backing_count = 0;
         // no number above the boards that there can be has said anything
         for k in 0..self.n.min(Delivered::BOARDS) {
-            if self.delivered.entry(k + 1, id) == entry {
-                bearing.insert(k + 1);
+            let entry = self.delivered.entry(k + 1, id);
+            if entry == Log::entry_of(Log::BLANK) {
+                blank.insert(k + 1);
+                blank_count += 1;
+            }
+            if entry == opening && opening != 0 {
+                backing.insert(k + 1);
+                backing_count += 1;
             }
         }
-        bearing
+        Scan {
+            tally: Tally {
+                opening,
+                blank,
+                backing,
+            },
+            blank: blank_count,
+            backing: backing_count,
+        }
     }
 
     // How many boards of 1 to n have a ballot of the round with this entry, accepted or not.
-    #[tactic(auto, using(crate::proofs::SetLaws::count_set))]
     pub fn count_bearing(&self, entry: u32) -> u8
         ensures { result ≡ count_in self.now.n (backs limits (heard limits self.now.delivered) self.now.round entry) }
     {
-        self.bearing(entry).count(self.n)
+        self.scan(entry).backing
     }
 
     // The entry of the opening that the round's coordinator sent.
@@ -84,6 +141,7 @@ impl<'a> Poll<'a> {
     }
 
     // What is allowed in the round: one pass over the rounds before it.
+    #[inline(never)]
     #[tactic(auto, using(crate::proofs::AllowanceLaws::allowance))]
     fn allowance(&self) -> Allowance
         ensures { lets result ≡ allowed limits self.now.n (heard limits self.now.delivered) self.now.round }
@@ -96,48 +154,59 @@ impl<'a> Poll<'a> {
         if self.n == 0 {
             return Allowance::Every;
         }
+        // in no round after the last is a ballot heard
+        if self.round.0 > Round::LAST + 1 {
+            return Allowance::Nothing;
+        }
         let mut allowance = Allowance::Every;
         for r in 1..self.round.0 {
             let earlier = self.delivered.poll(self.n, Round(r));
-            let opening = earlier.opening();
-            let blank = earlier.count_bearing(Log::entry_of(Log::BLANK));
-            // no ballot for an opening whose value is not allowed counts
-            let backing = if allowance.allows(opening) {
-                earlier.count_bearing(opening)
-            } else {
-                0
-            };
-            allowance = allowance.settled(self.n, opening, blank, backing);
+            let opening = allowance.opened(earlier.opening());
+            let scan = earlier.scan(opening);
+            allowance = allowance.settled(self.n, opening, scan.blank, scan.backing);
         }
         allowance
     }
 
-    // Whether an entry is that of a value that is allowed in the round.
-    #[tactic(auto, using(crate::proofs::AllRoundsLaws::allows))]
-    fn allows(&self, entry: u32) -> bool
-        ensures { result ≡ says entry (allowed limits self.now.n (heard limits self.now.delivered) self.now.round) }
-    {
-        // then there is no need of the pass
-        if entry <= Log::entry_of(Log::BLANK) {
-            return false;
-        }
-        self.allowance().allows(entry)
-    }
-
     // Whether a value is allowed in the round.
-    #[tactic(auto, unfolding(crate::specs::Acceptance::says))]
+    #[tactic(auto, using(crate::proofs::AllRoundsLaws::allowed_blank), unfolding(crate::specs::Acceptance::says))]
     pub fn allowed(&self, value: u16) -> bool
         ensures { result ≡ allowed limits self.now.n (heard limits self.now.delivered) self.now.round value }
     {
-        self.allows(Log::entry_of(value))
+        // then there is no need of the pass
+        if value == Log::BLANK {
+            return false;
+        }
+        self.allowance().allows(Log::entry_of(value))
+    }
+
+    // The entry of the round's opening where that is accepted; 0, which is none, where it is not.
+    #[tactic(auto, using(crate::proofs::AllRoundsLaws::openings))]
+    pub fn opened(&self) -> u32
+        ensures { result ≡ opened_entry limits self.now.n (heard limits self.now.delivered) self.now.round }
+    {
+        let opening = self.opening();
+        // then there is no need of the pass
+        if opening <= Log::entry_of(Log::BLANK) {
+            return 0;
+        }
+        self.allowance().opened(opening)
+    }
+
+    // What is accepted of the round: its opening, and the ballots.
+    #[tactic(auto, using(crate::proofs::PollLaws::tallied))]
+    pub fn tally(&self) -> Tally
+        ensures { result ≡ tally_of limits self.now.n (heard limits self.now.delivered) self.now.round }
+    {
+        self.scan(self.opened()).tally
     }
 
     // Whether the opening of the round with a value is accepted.
-    #[tactic(auto, using(crate::proofs::AllRoundsLaws::accepts), unfolding(crate::specs::Acceptance::accepts_opening, crate::specs::Acceptance::opens))]
+    #[tactic(auto, using(crate::proofs::AllRoundsLaws::openings))]
     pub fn accepts_opening(&self, value: u16) -> bool
         ensures { result ≡ accepts_opening limits self.now.n (heard limits self.now.delivered) self.now.round value }
     {
-        self.opening() == Log::entry_of(value) && self.allowed(value)
+        self.opened() == Log::entry_of(value)
     }
 
     // Whether a speaker's ballot of the round with a value is accepted.
@@ -156,22 +225,14 @@ impl<'a> Poll<'a> {
     pub fn ballots_for(&self, value: u16) -> BoardSet
         ensures { result ≡ set_of self.now.n (λ (s : ℕ). accepts_ballot limits self.now.n (heard limits self.now.delivered) self.now.round s value) }
     {
-        if value != Log::BLANK && !self.accepts_opening(value) {
-            return BoardSet::empty();
-        }
-        self.bearing(Log::entry_of(value))
+        self.tally().ballots_for(value)
     }
 
     // The boards of 1 to n with an accepted ballot of the round, whatever it bears.
-    #[tactic(auto, using(crate::proofs::PollLaws::joined, crate::proofs::PollLaws::alone))]
+    #[tactic(auto, using(crate::proofs::PollLaws::joined))]
     pub fn ballots(&self) -> BoardSet
         ensures { result ≡ set_of self.now.n (accepts_some limits self.now.n (heard limits self.now.delivered) self.now.round) }
     {
-        let blank = self.bearing(Log::entry_of(Log::BLANK));
-        let opening = self.opening();
-        if !self.allows(opening) {
-            return blank;
-        }
-        blank.union(self.bearing(opening))
+        self.tally().ballots()
     }
 }

@@ -1,21 +1,24 @@
 -- Laws of the accepted statements of a round: the opening's value, and how many ballots bear a value. Assumes nothing.
 use Prim.Native.Nat.{ℕ, zero, suc, ◌≤◌}
 use native.Mathlib.Omega.{arith}
-use mathlib.Core.Path.{◌≡◌, refl, sym, ◌∙◌}
+use mathlib.Core.Path.{◌≡◌, refl, ap, ◌∙◌}
 use mathlib.Core.Bool.{Bool, true, false, ◌&&◌}
-use mathlib.Core.Logic.{◌⊎◌, inr}
+use mathlib.Core.Logic.{◌⊎◌}
 use Rattle.std.specs.Prelude.{if◌then◌else◌, ◌==◌, nat_le, not}
 use Rattle.std.proofs.lemmas.Bool.Decides.{nat_tests}
-use Rattle.signer.specs.Log.{values, entry_of}
+use Rattle.signer.specs.Log.{values, value_of, entry_of}
 use Rattle.signer.proofs.LogLaws.{value-entry, value-within, entry_value}
 use Rattle.delivery.specs.Counting.{count_in}
 use Rattle.delivery.specs.Limits.{Limits}
 use Rattle.delivery.specs.Bus.{quorum}
+use Rattle.delivery.specs.Sets.{in_set}
 use Rattle.delivery.specs.Delivered.{Store}
-use Rattle.delivery.specs.Acceptance.{opening_entry, ballot_entry, backs, accepts_opening, accepts_ballot, accepts_some}
-use Rattle.delivery.proofs.CountLaws.{find, count-some, count-cong}
-use Rattle.delivery.proofs.OneRoundLaws.{backs-value}
-use Rattle.delivery.proofs.AllRoundsLaws.{opening-reads, ballot-reads, ballot-sent, accepted-reads, reads-accepted, ballot-needs}
+use Rattle.delivery.specs.Acceptance.{opening_entry, ballot_entry, accepts_opening, accepts_ballot, accepts_some, tally_of}
+use Rattle.delivery.specs.declared.poll.Tally.{Tally}
+use Rattle.delivery.proofs.CountLaws.{find, count-some}
+use Rattle.delivery.proofs.SetLaws.{count_set}
+use Rattle.delivery.proofs.PollLaws.{backing-bears}
+use Rattle.delivery.proofs.AllRoundsLaws.{opened-sent, opened-entry, opening-reads, ballot-reads, accepted-reads, reads-accepted, ballot-needs}
 use Rattle.delivery.proofs.AgreementLaws.{Won}
 use Rattle.vote.specs.Ballots.{some_value, opened_value, tally, borne_by, value_with}
 
@@ -56,13 +59,7 @@ module _ (L : Limits) (n : ℕ) (h : Store) (r : ℕ) where
       let e = value-entry w (omega (arith, x.said)) in
       grind (arith, nat_tests)
 
-  -- where the opening with w is accepted, so is each ballot that bears w
-  pub tally-opened : (w : ℕ) → accepts_opening L n h r w ≡ true
-      → count_in n (backs L h r (entry_of w)) ≡ tally L n h r w
-  unfolding tally
-  tally-opened w o = count-cong n _ _ (λ s l u. backs-value L h r w s ∙ sym (ballot-sent L n h r s w (inr o)))
-
-  -- and it is accepted where an accepted ballot bears w
+  -- an opening is accepted where an accepted ballot bears its value
   pub tally-opens : (w : ℕ) → (w ≡ 0 → ⊥) → 1 ≤ tally L n h r w → accepts_opening L n h r w ≡ true
   unfolding tally
   tally-opens w z l = let x = find n (λ (s : ℕ). accepts_ballot L n h r s w) l in ballot-needs L n h r x.0 w z x.3
@@ -117,10 +114,35 @@ module _ (L : Limits) (n : ℕ) (h : Store) (r : ℕ) where
       let g = count-some n (λ (s : ℕ). accepts_ballot L n h r s opened) in
       grind (arith, nat_tests, borne-opened)
 
+  -- by the tally of the round: the accepted opening's value is that of its entry
+  pub opened-tallied : value_of (tally_of L n h r).opening ≡ opened
+  unfolding opened_value
+  opened-tallied =
+      grind (
+        arith,
+        nat_tests,
+        opened-sent L n h r,
+        opened-entry L n h r (value_of (opening_entry L n h r)),
+        entry_value (tally_of L n h r).opening,
+      )
+
+  -- and so many ballots bear it as back that entry
+  pub backing-tally : (opened ≡ 0 → ⊥) → count_in n (in_set (tally_of L n h r).backing) ≡ tally L n h r opened
+  unfolding tally
+  backing-tally z =
+      let e = rw opened-tallied at (entry_value (tally_of L n h r).opening) in
+      ap (λ (m : ℕ). count_in n (in_set m)) (backing-bears L n h r opened (e z)) ∙ count_set n n _ (omega arith)
+
   -- what q or more bear is won
   pub tally-won : (w : ℕ) → (w ≡ 0 → ⊥) → quorum n ≤ tally L n h r w → Won L n h r w
   unfolding tally
   tally-won w z q = record { value = z; quorum-bears = q }
 
--- what the search for a value goes by in the program
-pub ruleset ballots = (opened-reads, tally-opened, with-opened)
+  -- so, with b for how many do, the value that m or more ballots bear is that one
+  pub with-tallied : (t : Tally) (b : ℕ) → t ≡ tally_of L n h r
+      → b ≡ (if value_of t.opening == 0 then 0 else count_in n (in_set t.backing))
+      → (m : ℕ) → value_with L n h r m ≡ (if nat_le 1 b && nat_le m b then value_of t.opening else 0)
+  with-tallied t b e f m = rw e (grind (arith, nat_tests, opened-tallied, backing-tally, with-opened, rw e at f))
+
+-- for the functions
+pub ruleset accepted_value = (opened-tallied)

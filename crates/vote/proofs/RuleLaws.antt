@@ -2,9 +2,9 @@
 use Prim.Native.Nat.{ℕ, ◌≤◌, ◌<◌, ◌*◌}
 use native.Mathlib.Omega.{arith}
 use mathlib.Core.Path.{◌≡◌, ap, ◌∙◌}
-use mathlib.Core.Bool.{Bool, true, false}
+use mathlib.Core.Bool.{Bool, false}
 use mathlib.Core.Logic.{◌⊎◌}
-use Rattle.std.specs.Prelude.{if◌then◌else◌, min, ◌==◌, ◌||◌}
+use Rattle.std.specs.Prelude.{min, ◌==◌, ◌||◌}
 use Rattle.std.proofs.lemmas.Bool.{false_from_ne_true}
 use Rattle.std.proofs.lemmas.Bool.Decides.{nat_tests}
 use Rattle.signer.proofs.FromOneLaws.{within-high}
@@ -14,28 +14,22 @@ use Rattle.delivery.specs.Bus.{is_board, quorum, overlap}
 use Rattle.delivery.specs.Rounds.{coordinator, identifier_of}
 use Rattle.delivery.specs.Sets.{in_set, set_of, bits, union}
 use Rattle.delivery.specs.Delivered.{Store, heard}
-use Rattle.delivery.specs.Acceptance.{opening_entry, accepts_some}
+use Rattle.delivery.specs.Acceptance.{accepts_some}
 use Rattle.delivery.specs.declared.delivered.Delivered.{Delivered}
 use Rattle.delivery.specs.declared.round.Phase.TheVariants.{Ballot}
 use Rattle.delivery.proofs.AllRoundsLaws.{accepted-reads, ballot-reads}
 use Rattle.delivery.proofs.CountLaws.{count-cong, count-le, every-counted}
 use Rattle.delivery.proofs.DeliveredLaws.{heard-nobody}
 use Rattle.delivery.proofs.SetLaws.{count_set, in-set_of-within, in-union, set_beyond}
+use Rattle.delivery.proofs.PollLaws.{ballots-tallied}
 use Rattle.delivery.proofs.AgreementLaws.{Won}
 use Rattle.vote.specs.Ballots.{opened_value, tally}
-use Rattle.vote.specs.Rule.{open_move, may_vote, vote_move, may_count, carried, next_estimate, onward, count_move, move_at, rule}
+use Rattle.vote.specs.Rule.{open_move, vote_move, may_count, carried, next_estimate, onward, count_move, move_at, rule}
 use Rattle.vote.specs.declared.position.Position.{Position}
 use Rattle.vote.specs.declared.position.Stage.TheVariants.{Open, Vote, Count}
 use Rattle.vote.specs.declared.rule.Move.{Move}
 use Rattle.vote.specs.declared.rule.Move.TheVariants.{Waits, Passes, Opens, Ballots, Decides, Advances, Expires}
 use Rattle.vote.proofs.BallotLaws.{with-opened, tally-won}
-
--- stage B, as the program asks
-pub may-vote : (L : Limits) (n : ℕ) (p : Position) (h : Store)
-    → may_vote L n p h
-    ≡ (if opening_entry L n h p.round.0 == 0 then in_set p.suspected (coordinator n p.round.0) else true)
-unfolding may_vote
-may-vote L n p h = grind (arith, nat_tests)
 
 -- Stage C by sets, as the program counts: m is that of the boards with an accepted ballot. Only boards that there can
 -- be have one, so where a quorum has there are no more boards than a set has bits.
@@ -111,7 +105,5 @@ module _ (L : Limits) (n me : ℕ) (p : Position) (h : Store) where
   unfolding rule move_at open_move vote_move may_count next_estimate onward count_move
   rule-makes = grind (arith, nat_tests, with-opened, tally-won)
 
--- what the program goes by to tell who may vote, and count
-pub ruleset votes = (may-vote)
-
-pub ruleset counts = (count-few_in, count-enough_in)
+-- what the program goes by to tell who may count
+pub ruleset counts = (count-few_in, count-enough_in, ballots-tallied)

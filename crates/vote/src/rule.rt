@@ -1,14 +1,12 @@
 ghost use Rattle.std.specs.Prelude.{◌≡◌, ◌≤◌};
 ghost use Rattle.delivery.specs.Limits.{limits};
 ghost use Rattle.delivery.specs.Delivered.{heard};
-ghost use Rattle.vote.specs.Rule.{open_move, may_vote, vote_move, may_count, next_estimate, onward, count_move, rule};
+ghost use Rattle.vote.specs.Rule.{open_move, vote_move, count_move, rule};
 ghost use Rattle.vote.specs.Acts.{Acts, OfValues};
-ghost use Rattle.vote.specs.Private.{some_opened, some_with, by_round, by_position};
 
 use crate::position::{Position, Stage};
-use delivery::{Delivered, Poll, Round, bus};
+use delivery::{Delivered, Round, bus};
 use signer::Log;
-use std::marker::Model;
 
 // What a board does in a turn: it waits; passes, not being coordinator; opens with its estimate; gives a ballot with a
 // value; decides a value; goes on with an estimate; or is spent with one.
@@ -23,131 +21,67 @@ pub enum Move {
     Expires(u16),
 }
 
-// All that a board's move goes by: how many boards there are, where it stands, and what it has delivered.
-#[derive(Drop)]
-struct Outlook<'a> {
-    n: u8,
-    position: Position,
-    delivered: &'a Delivered,
-}
-
-impl<'a> Model for Outlook<'a> {
-    ghost use Rattle.vote.specs.Private.{Outset};
-
-    ghost Value = { Outset };
-
-    ghost view = { λ o. record { n = o.n; position = o.position; delivered = o.delivered.now } };
-}
-
-impl<'a> Outlook<'a> {
-    // The board's round, as it has heard it.
-    fn poll(&self) -> Poll<'_>
-        ensures { result ≡ record { delivered = self.now.delivered; n = self.now.n; round = self.now.position.round.0 } }
-    {
-        self.delivered.poll(self.n, self.position.round)
-    }
-
-    // The value of the round's opening, if it is accepted.
-    #[tactic(auto, using(crate::proofs::BallotLaws::opened_some), unfolding(crate::specs::Ballots::opened_value, crate::specs::Private::some_opened))]
-    fn opened_value(&self) -> Option<u16>
-        ensures { result ≡ by_round some_opened self.now }
-    {
-        let value = Log::value_of(self.poll().opening());
-        self.poll().accepts_opening(value).then_some(value)
-    }
-
-    // The value that so many accepted ballots of the round bear, or more, if there is one. Only the opening's value can be
-    // it, and where that is accepted so is each ballot that bears it.
-    #[tactic(auto, using(crate::proofs::BallotLaws::ballots), unfolding(crate::specs::Private::some_with, crate::specs::Private::some_opened))]
-    fn value_with(&self, least: u8) -> Option<u16>
-        ensures { result ≡ by_round some_with self.now least }
-    {
-        let value = self.opened_value()?;
-        let backing = self.poll().count_bearing(Log::entry_of(value));
-        (backing >= least.max(1)).then_some(value)
-    }
-
+impl Position {
     // Stage A.
     #[tactic(auto, unfolding(crate::specs::Rule::open_move))]
-    fn open_move(&self, me: u8) -> Move
-        ensures { result ≡ open_move self.now.n me self.now.position }
+    fn open_move(&self, n: u8, me: u8) -> Move
+        ensures { result ≡ open_move n me self.now }
     {
-        if me == self.position.round.coordinator(self.n) {
-            return Move::Opens(self.position.estimate);
+        if me == self.round.coordinator(n) {
+            return Move::Opens(self.estimate);
         }
         Move::Passes
     }
 
-    // Whether the board may vote: its coordinator's opening is there, or the coordinator is suspected.
-    #[tactic(auto, using(crate::proofs::RuleLaws::votes))]
-    fn may_vote(&self) -> bool
-        ensures { result ≡ by_position may_vote self.now }
+    // Stage B. The board may vote once the coordinator's opening is there, or the coordinator is suspected: nothing else is
+    // looked at before.
+    #[tactic(auto, using(crate::proofs::BallotLaws::accepted_value), unfolding(crate::specs::Rule::vote_move, crate::specs::Rule::may_vote))]
+    fn vote_move(&self, n: u8, delivered: &Delivered) -> Move
+        ensures { result ≡ vote_move limits n self.now (heard limits delivered.now) }
     {
-        let coordinator = self.position.round.coordinator(self.n);
-        self.poll().opening() != 0 || self.position.suspected.contains(coordinator)
-    }
-
-    // Stage B.
-    #[tactic(auto, unfolding(crate::specs::Rule::vote_move, crate::specs::Private::some_opened))]
-    fn vote_move(&self) -> Move
-        ensures { result ≡ by_position vote_move self.now }
-    {
-        if !self.may_vote() {
+        let poll = delivered.poll(n, self.round);
+        let coordinator = self.round.coordinator(n);
+        if poll.opening() == 0 && !self.suspected.contains(coordinator) {
             return Move::Waits;
         }
-        Move::Ballots(self.opened_value().unwrap_or(Log::BLANK))
+        Move::Ballots(Log::value_of(poll.opened()))
     }
 
-    // Whether the board may count: a quorum has ballots, and every board without one is suspected. By sets: tried as a
+    // Stage C. The board may count once a quorum has ballots, and every board without one is suspected. By sets: tried as a
     // chain over the boards, `(1..=n).all(..)`, whose proof did not close.
-    #[tactic(auto, using(crate::proofs::RuleLaws::counts))]
-    fn may_count(&self) -> bool
-        ensures { result ≡ by_position may_count self.now }
+    #[tactic(auto, using(crate::proofs::RuleLaws::counts), unfolding(crate::specs::Rule::count_move, crate::specs::Rule::onward, crate::specs::Rule::next_estimate))]
+    fn count_move(&self, n: u8, delivered: &Delivered) -> Move
+        ensures { result ≡ count_move limits n self.now (heard limits delivered.now) }
     {
-        let ballots = self.poll().ballots();
-        ballots.count(self.n) >= bus::quorum(self.n)
-            && ballots.union(self.position.suspected).count(self.n) == self.n
-    }
-
-    // The estimate that the round leaves the board with.
-    #[tactic(auto, unfolding(crate::specs::Rule::next_estimate, crate::specs::Private::some_with))]
-    fn next_estimate(&self) -> u16
-        ensures { result ≡ by_position next_estimate self.now }
-    {
-        self.value_with(bus::overlap(self.n))
-            .unwrap_or(self.position.estimate)
-    }
-
-    // The end of a round in which the board decides nothing.
-    #[tactic(auto, unfolding(crate::specs::Rule::onward))]
-    fn onward(&self) -> Move
-        ensures { result ≡ by_position onward self.now }
-    {
-        let estimate = self.next_estimate();
+        let tally = delivered.poll(n, self.round).tally();
+        let ballots = tally.ballots();
+        let present = ballots.union(self.suspected);
+        if ballots.count(n) < bus::quorum(n) || present.count(n) != n {
+            return Move::Waits;
+        }
+        let value = Log::value_of(tally.opening);
+        // only the opening's value has ballots, and the blank is none
+        let backing = if value == Log::BLANK {
+            0
+        } else {
+            tally.backing.count(n)
+        };
+        if backing >= bus::quorum(n).max(1) {
+            return Move::Decides(value);
+        }
+        let mut estimate = self.estimate;
+        if backing >= bus::overlap(n).max(1) {
+            estimate = value;
+        }
         // compared as a number: `Round(Round::LAST)` is no plainer
-        if self.position.round.0 < Round::LAST {
+        if self.round.0 < Round::LAST {
             return Move::Advances(estimate);
         }
         Move::Expires(estimate)
     }
 
-    // Stage C.
-    #[tactic(auto, unfolding(crate::specs::Rule::count_move, crate::specs::Private::some_with))]
-    fn count_move(&self) -> Move
-        ensures { result ≡ by_position count_move self.now }
-    {
-        if !self.may_count() {
-            return Move::Waits;
-        }
-        match self.value_with(bus::quorum(self.n)) {
-            Some(chosen) => Move::Decides(chosen),
-            None => self.onward(),
-        }
-    }
-}
-
-impl Position {
     // What board `me` of n does in its turn. The two numbers stay apart, as in `Board::next_move`.
+    #[inline(always)]
     #[tactic(auto, using(crate::proofs::ActLaws::said), unfolding(crate::specs::Rule::rule, crate::specs::Rule::move_at))]
     pub fn rule(&self, n: u8, me: u8, delivered: &Delivered) -> Move
         ensures moved { result ≡ rule limits n me self.now (heard limits delivered.now) }
@@ -155,15 +89,10 @@ impl Position {
             → OfValues (heard limits delivered.now)
             → Acts n me self.now (heard limits delivered.now) result }
     {
-        let outlook = Outlook {
-            n,
-            position: *self,
-            delivered,
-        };
         match self.stage {
-            Stage::Open => outlook.open_move(me),
-            Stage::Vote => outlook.vote_move(),
-            Stage::Count => outlook.count_move(),
+            Stage::Open => self.open_move(n, me),
+            Stage::Vote => self.vote_move(n, delivered),
+            Stage::Count => self.count_move(n, delivered),
         }
     }
 }

@@ -108,6 +108,7 @@ impl Position {
 impl Board {
     // What board `me` of n does in its turn, if it is voting. The two numbers stay apart, here and in `turn`: a pair of them
     // would be made for the call and taken apart at once, so no plainer.
+    #[inline(always)]
     pub fn next_move(&self, n: u8, me: u8) -> Move
         ensures { result ≡ rule limits n me self.now.position (heard limits self.now.delivered) }
     {

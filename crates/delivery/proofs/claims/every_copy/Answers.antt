@@ -1,12 +1,9 @@
 -- Each claim is a law, or what the laws of its subject say together. Assumes nothing.
 use native.Mathlib.Omega.{arith}
-use Rattle.std.proofs.lemmas.Bool.Decides.{nat_tests}
 use Rattle.delivery.specs.Limits.{limits}
-use Rattle.delivery.specs.Sets.{bits}
-use Rattle.delivery.specs.Owed.{lacks}
 use Rattle.delivery.specs.Claims.{HasSets}
 use Rattle.delivery.specs.declared.owed.Owed.{Owed}
-use Rattle.delivery.proofs.SetLaws.{in-none, in-set_of-within}
+use Rattle.delivery.proofs.SetLaws.{in-none}
 use Rattle.delivery.proofs.GrowthLaws.{deliver-grows}
 use Rattle.delivery.proofs.DeliveredLaws as delivered
 use Rattle.delivery.proofs.OwedLaws as owed
