@@ -1,5 +1,5 @@
 -- Laws of what is printed: texts put one after another, and how long the lines are. Assumes nothing.
-use Prim.Native.Nat.{ℕ, zero, suc, ◌+◌, ◌*◌, ◌/◌, ◌%◌, ◌^◌, ◌≤◌, ◌<◌}
+use Prim.Native.Nat.{ℕ, zero, suc, ◌+◌, ◌*◌, ◌/◌, ◌%◌, ◌≤◌, ◌<◌}
 use native.Mathlib.Nat.{zero-add, add-zero}
 use native.Mathlib.Numerals.{add-one}
 use native.Mathlib.Omega.{arith}
@@ -76,20 +76,21 @@ put_size {xs} {buf} {at = at} p = (p.place, rw p.bytes (length-sets buf at xs))
 front : ℕ → List ℕ
 front m = if nat_le 1 m then decimal m else []
 
-front-more : (m tenth : ℕ) → m < 2 ^ 64 → m / 10 ≡ tenth → front m ≡ front tenth ++ last_digit m
+front-more : (m tenth : ℕ) → Fits w16 m → m / 10 ≡ tenth → front m ≡ front tenth ++ last_digit m
 unfolding front last_digit
-front-more m tenth h e = grind (arith, nat_tests, decimal_digit, decimal_step)
+front-more m tenth f e = grind (arith, nat_tests, decimal_digit, decimal_step)
 
-front-last : (m : ℕ) → m < 2 ^ 64 → decimal m ≡ front (m / 10) ++ (48 + m % 10) ∷ []
+front-last : (m : ℕ) → Fits w16 m → decimal m ≡ front (m / 10) ++ (48 + m % 10) ∷ []
 unfolding front
-front-last m h = grind (arith, nat_tests, decimal_digit, decimal_step)
+front-last m f = grind (arith, nat_tests, decimal_digit, decimal_step)
 
 pub number-digits : (m : ℕ) → Fits w16 m → decimal m
-    ≡ (((last_digit (m / 10000) ++ last_digit (m / 1000)) ++ last_digit (m / 100)) ++ last_digit (m / 10)) ++ (48 + m % 10) ∷ []
+    ≡ (((last_digit (m / 10000) ++ last_digit (m / 1000)) ++ last_digit (m / 100)) ++ last_digit (m / 10))
+    ++ (48 + m % 10) ∷ []
 unfolding front
 number-digits m f =
     rw (
-      front-last m (omega arith),
+      front-last m f,
       front-more (m / 10) (m / 100) (omega arith) (omega arith),
       front-more (m / 100) (m / 1000) (omega arith) (omega arith),
       front-more (m / 1000) (m / 10000) (omega arith) (omega arith),
