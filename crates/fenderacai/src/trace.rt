@@ -21,14 +21,14 @@ impl Words<'_> {
         ensures { Puts (rows_of limits bench.old (events_in count events.now)) self.old.out self.old.length self.new.out self.new.length }
     {
         for k in 0..count {
-            let answer = bench.apply(Event::read(&events[Event::BYTES * k..]));
+            let answer = bench.step(Event::read(&events[Event::BYTES * k..]));
             self.row(number_of(answer), bench);
         }
     }
 }
 
 // Writes the trace of a file to the start of a buffer, if there is room for it. The answer is a number in any case, since
-// that is what the C call hands back (the C interface).
+// that is what the C call hands back (the C interface). The bench stays where it was made, since it is large.
 #[tactic(auto, using(crate::proofs::TraceLaws::file_traced))]
 pub(crate) fn write(file: &[u8], out: &mut [u32]) -> usize
     ensures length { result ≡ length (traced limits file.now) }
@@ -41,9 +41,9 @@ pub(crate) fn write(file: &[u8], out: &mut [u32]) -> usize
     if length > out.len() {
         return length;
     }
-    let mut bench = Bench::fresh(bus.n, bus.marks).bench;
+    let mut made = Bench::fresh(bus.n, bus.marks);
     let mut words = Words { out, length: 0 };
-    words.row(0, &bench);
-    words.rows(&mut bench, count as usize, &file[start..]);
+    words.row(0, &made.bench);
+    words.rows(&mut made.bench, count as usize, &file[start..]);
     words.length
 }

@@ -1,5 +1,5 @@
 -- Laws of what is printed: texts put one after another, and how long the lines are. Assumes nothing.
-use Prim.Native.Nat.{ℕ, zero, suc, ◌+◌, ◌*◌, ◌≤◌, ◌<◌}
+use Prim.Native.Nat.{ℕ, zero, suc, ◌+◌, ◌*◌, ◌/◌, ◌%◌, ◌≤◌, ◌<◌}
 use native.Mathlib.Nat.{zero-add, add-zero}
 use native.Mathlib.Numerals.{add-one}
 use native.Mathlib.Omega.{arith}
@@ -7,14 +7,14 @@ use mir.Syntax.{w8, w16}
 use mir.Val.{Fits}
 use denote.Ref.{MutBor}
 use borrow.Author.Tests.{le-leb}
-use mathlib.Core.Path.{◌≡◌, refl, sym, ◌∙◌}
+use mathlib.Core.Path.{◌≡◌, refl, sym, ap, ◌∙◌}
 use mathlib.Core.List.{List, [], ◌∷◌, ◌++◌, append_assoc}
 use lib.ListN.{length, take, drop, get_or, set, length-append}
 use Rattle.std.proofs.lemmas.Bool.Decides.{nat_tests}
-use Rattle.std.proofs.lemmas.Fmt.{length-decimal-le}
+use Rattle.std.proofs.lemmas.Fmt.{decimal_digit, decimal_step, length-decimal-le}
 use Rattle.std.proofs.lemmas.List.{take_more}
 use lib.Seq.{sets, length-sets, sets-eq, take-append_seam, take-add}
-use Rattle.std.specs.Prelude.{Ok, Err}
+use Rattle.std.specs.Prelude.{Ok, Err, decimal, if◌then◌else◌, nat_le}
 use Rattle.std.proofs.lemmas.Bool.{cond-true}
 use Rattle.delivery.specs.Limits.{limits}
 use Rattle.bench.specs.declared.show.Shown.{Shown}
@@ -31,7 +31,7 @@ use Rattle.schedule.specs.Prints.{
   board_line_bytes,
   longest_print,
 }
-use Rattle.schedule.specs.Private.{PutAt, Puts}
+use Rattle.schedule.specs.Private.{last_digit, PutAt, Puts}
 use Rattle.schedule.specs.declared.fault.Fault.{Fault}
 use Rattle.schedule.specs.declared.report.TooShort.{TooShort}
 use Rattle.schedule.proofs.FaultLaws.{fault-row}
@@ -42,11 +42,6 @@ sets-append : (xs ys buf : List ℕ) (at : ℕ) → sets (sets buf at xs) (at + 
 sets-append [] ys buf at = rw add-zero
 sets-append (x ∷ xs) ys buf at =
     let e : at + suc (length xs) ≡ suc at + length xs = omega arith in rw e (sets-append xs ys (set buf at x) (suc at))
-
--- nothing is written in an empty buffer
-sets-nowhere : (xs : List ℕ) (at : ℕ) → sets [] at xs ≡ []
-sets-nowhere [] at = refl
-sets-nowhere (x ∷ xs) at = sets-nowhere xs (suc at)
 
 -- nothing is put by doing nothing
 pub put-none : {buf : List ℕ} {at : ℕ} → PutAt [] buf at buf at
@@ -76,6 +71,39 @@ puts_more text k there p q = rw (take_more text k 0 there) (p then q)
 -- the place is that much further, and the buffer as long as it was
 pub put_size : {xs buf buf' : List ℕ} {at r : ℕ} → PutAt xs buf at buf' r → (r ≡ at + length xs) × (length buf' ≡ length buf)
 put_size {xs} {buf} {at = at} p = (p.place, rw p.bytes (length-sets buf at xs))
+
+-- A number's decimal is its last digit, after that of a tenth of it, and so on, as far as these are not 0.
+front : ℕ → List ℕ
+front m = if nat_le 1 m then decimal m else []
+
+front-more : (m tenth : ℕ) → Fits w16 m → m / 10 ≡ tenth → front m ≡ front tenth ++ last_digit m
+unfolding front last_digit
+front-more m tenth f e = grind (arith, nat_tests, decimal_digit, decimal_step)
+
+front-last : (m : ℕ) → Fits w16 m → decimal m ≡ front (m / 10) ++ (48 + m % 10) ∷ []
+unfolding front
+front-last m f = grind (arith, nat_tests, decimal_digit, decimal_step)
+
+pub number-digits : (m : ℕ) → Fits w16 m → decimal m
+    ≡ (((last_digit (m / 10000) ++ last_digit (m / 1000)) ++ last_digit (m / 100)) ++ last_digit (m / 10))
+    ++ (48 + m % 10) ∷ []
+unfolding front
+number-digits m f =
+    rw (
+      front-last m f,
+      front-more (m / 10) (m / 100) (omega arith) (omega arith),
+      front-more (m / 100) (m / 1000) (omega arith) (omega arith),
+      front-more (m / 1000) (m / 10000) (omega arith) (omega arith),
+      front-more (m / 10000) 0 (omega arith) (omega arith),
+    )
+    refl
+
+pub length-digits : (m : ℕ) → Fits w16 m → length (decimal m)
+    ≡ length (last_digit (m / 10000)) + length (last_digit (m / 1000)) + length (last_digit (m / 100))
+    + length (last_digit (m / 10)) + 1
+length-digits m f = rw (number-digits m f) (simp length-append (omega arith))
+
+pub ruleset number_digits = (length-digits)
 
 -- a line is within its most bytes, since a number below a power of ten has at most as many digits as the power has zeros
 pub event-within : (k a : ℕ) → k ≤ most_events → Fits w8 a → length (event_line k a) ≤ event_line_bytes
@@ -149,27 +177,18 @@ pub buffer-written : {text buf buf' : List ℕ} {r : ℕ} → length text ≤ le
 unfolding buffer_from
 buffer-written {text} {buf} h p = rw p.bytes (sets-written text buf h ∙ sym (cond-true _ _ _ (le-leb (length text) (length buf) h)))
 
--- A report puts its text into an empty part of the buffer first, which tells its length and leaves the buffer as it was.
-module _ (buf : List ℕ) {text none : List ℕ} {r : ℕ} (p : PutAt text [] 0 none r) where
-  text-length : r ≡ length text
-  text-length = p.place ∙ zero-add (length text)
+-- a report that has room is written, and says its length; one that has none says it too, from a text put nowhere
+pub report-written : {text buf buf' : List ℕ} {r : ℕ} → length text ≤ length buf → PutAt text buf 0 buf' r
+    → (Ok r ≡ report_from text (length buf)) × (buf' ≡ buffer_from text buf)
+unfolding report_from
+report-written {text} {buf} h p =
+    let told = p.place ∙ zero-add (length text) in
+    (ap Ok told ∙ sym (cond-true _ _ _ (le-leb (length text) (length buf) h)), buffer-written h p)
 
-  still : none ++ buf ≡ buf
-  still = rw (p.bytes, sets-nowhere text 0)
-
-  pub report-short : length (none ++ buf) < r
-      → (Err (record { needed = r }) ≡ report_from text (length buf)) × (none ++ buf ≡ buffer_from text buf)
-  unfolding report_from buffer_from
-  report-short h = let few : length buf < length text = rw (still, text-length) at h in rw (still, text-length) (grind (arith, nat_tests))
-
-  pub report-written : {buf' : List ℕ} {r' : ℕ} → r ≤ length (none ++ buf) → PutAt text (none ++ buf) 0 buf' r'
-      → (Ok r ≡ report_from text (length buf)) × (buf' ≡ buffer_from text buf)
-  unfolding report_from
-  report-written h q =
-      let fits : length text ≤ length buf = rw (still, text-length) at h in
-      (rw text-length (sym (cond-true _ _ _ (le-leb _ _ fits))), buffer-written fits (rw still at q))
-
-pub ruleset report_put = (report-short)
+pub report-short : {text none none' : List ℕ} {r : ℕ} (room : ℕ) → room < r → PutAt text none 0 none' r
+    → Err (record { needed = r }) ≡ report_from text room
+unfolding report_from
+report-short {text} room h p = let told = p.place ∙ zero-add (length text) in rw told (grind (arith, nat_tests))
 
 -- either way a report tells the length
 pub told-written : (text : List ℕ) (room r : ℕ) → Ok r ≡ report_from text room → r ≡ length text

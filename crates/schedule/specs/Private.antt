@@ -1,5 +1,5 @@
 -- What private calls alone promise by; whoever believes the open calls need not read it.
-use Rattle.std.specs.Prelude.{ℕ, ◌+◌, ◌≤◌, ◌≡◌, List, ◌++◌, length, Result, Ok, Err}
+use Rattle.std.specs.Prelude.{ℕ, ◌+◌, ◌%◌, ◌≤◌, ◌≡◌, List, [], ◌∷◌, ◌++◌, length, Result, Ok, Err, if◌then◌else◌, nat_le}
 use denote.Ref.{MutBor}
 use Rattle.std.proofs.lemmas.List.Edits.{sets}
 use Rattle.delivery.specs.Limits.{Limits}
@@ -19,6 +19,10 @@ report_text L (Err f) = refused_line f
 
 abbrev pub IsWithin : Limits → Report → Type 0
 IsWithin L r = (r.count ≤ most_events) × (r.n ≤ L.boards)
+
+-- the last digit of a number; none of 0
+unfoldable pub last_digit : ℕ → List ℕ
+last_digit m = if nat_le 1 m then (48 + m % 10) ∷ [] else []
 
 -- What the calls within that write a part of it promise: the text stands in the buffer from a place on, as far as the
 -- buffer goes, and the place after it is told.

@@ -87,10 +87,26 @@ impl Report {
         text.length
     }
 
+    // Writes the text to the start of a buffer, if there is room for it. A buffer that has room for any text gets it at once;
+    // for a shorter one it is put into an empty one first, which tells its length.
+    fn fit(report: &Result<Report, Fault>, out: &mut [u8]) -> Result<usize, TooShort>
+        requires { IfOk report.now (IsWithin limits) }
+        ensures answer { result ≡ report_from (report_text limits report.now) (length out.old) }
+        ensures buffer { out.new ≡ buffer_from (report_text limits report.now) out.old }
+        ensures within { length (report_text limits report.now) ≤ longest_print limits }
+        ensures fits { IfOk result (λ n. n ≤ length out.new) }
+    {
+        if out.len() < Report::LONGEST {
+            let needed = Report::put(report, &mut []);
+            if needed > out.len() {
+                return Err(TooShort { needed });
+            }
+        }
+        Ok(Report::put(report, out))
+    }
+
     // Reads a file, plays it, and writes to the start of a buffer what is to be printed of it. The rest of the buffer stays;
-    // if it is too short, all of it does. No report is longer than `Report::LONGEST`. The text is put into an empty part
-    // first, which tells its length.
-    #[tactic(auto, using(crate::proofs::PrintLaws::report_put))]
+    // if it is too short, all of it does. No report is longer than `Report::LONGEST`.
     pub fn write(file: &[u8], out: &mut [u8]) -> Result<usize, TooShort>
         ensures answer { result ≡ report_from (printed limits file.now) (length out.old) }
         ensures buffer { out.new ≡ buffer_from (printed limits file.now) out.old }
@@ -99,12 +115,7 @@ impl Report {
         ensures reports { Reports file.now (printed limits file.now) }
     {
         let report = Report::of(file);
-        let length = Report::put(&report, &mut out[..0]);
-        if length > out.len() {
-            return Err(TooShort { needed: length });
-        }
-        Report::put(&report, out);
-        Ok(length)
+        Report::fit(&report, out)
     }
 
     /// Reads a file, plays it, and writes what is to be printed of it to the start of a buffer that has room for any report, so

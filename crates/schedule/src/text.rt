@@ -1,11 +1,10 @@
 ghost use Rattle.std.specs.Prelude.{◌+◌, ◌≤◌, ◌≡◌, [], ◌∷◌, length, decimal};
 ghost use Rattle.delivery.specs.Limits.{limits};
 ghost use Rattle.schedule.specs.Prints.{event_line, board_line, refused_line, longest_print};
-ghost use Rattle.schedule.specs.Private.{Puts};
+ghost use Rattle.schedule.specs.Private.{last_digit, Puts};
 
 use crate::fault::Fault;
 use bench::Shown;
-use itoa::Buffer;
 use vote::Numbered;
 
 // A text that is put into a buffer from its start on, as far as the buffer goes, and how long it is so far. So in an empty
@@ -20,6 +19,7 @@ pub(crate) struct Text<'a> {
 // since words in another crate are put in the same way: a record for each would be no plainer.
 impl Text<'_> {
     // One byte.
+    #[inline(always)]
     pub(crate) fn put(&mut self, byte: u8)
         requires { self.old.length + 1 ≤ longest_print limits }
         ensures { Puts (byte ∷ []) self.old.out self.old.length self.new.out self.new.length }
@@ -30,12 +30,31 @@ impl Text<'_> {
         self.length += 1;
     }
 
-    // A number in decimal.
+    // The last digit of a number; none of 0.
+    #[inline(always)]
+    #[tactic(auto, unfolding(crate::specs::Private::last_digit))]
+    fn digit(&mut self, m: u16)
+        requires { self.old.length + length (last_digit m) ≤ longest_print limits }
+        ensures { Puts (last_digit m) self.old.out self.old.length self.new.out self.new.length }
+    {
+        if m > 0 {
+            self.put(b'0' + (m % 10) as u8);
+        }
+    }
+
+    // A number in decimal. Digit by digit, and not by the kit's `itoa`: that makes a text of its own in a loop, which would
+    // be copied in another.
+    #[inline(always)]
+    #[tactic(auto, using(crate::proofs::PrintLaws::number_digits))]
     pub(crate) fn number(&mut self, m: u16)
         requires { self.old.length + length (decimal m) ≤ longest_print limits }
         ensures { Puts (decimal m) self.old.out self.old.length self.new.out self.new.length }
     {
-        self.word(Buffer::new().format(m).as_bytes());
+        self.digit(m / 10000);
+        self.digit(m / 1000);
+        self.digit(m / 100);
+        self.digit(m / 10);
+        self.put(b'0' + (m % 10) as u8);
     }
 
     // A text as it stands.

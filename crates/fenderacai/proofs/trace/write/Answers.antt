@@ -32,7 +32,7 @@ rows-requires c =
     let s = c.in-Ok.field-0 in
     record {
       events = rw part_to_end (events-fit _ s (sym c.read.ensures.meaning ∙ c.in-Ok.is));
-      room = omega (arith, put_size c.row.ensures.text, length-row c.fresh-bench.result.bench 0, c.if-length-out.false);
+      room = omega (arith, put_size c.row.ensures.text, length-row c.fresh-made.result.bench 0, c.if-length-out.false);
     }
 
 -- the row of the fresh bench and those of the events are put
@@ -41,8 +41,8 @@ returns c =
     let bs = c.args.file.now in
     let s = c.in-Ok.field-0 in
     let read = sym c.read.ensures.meaning ∙ c.in-Ok.is in
-    let begun : c.fresh-bench.result.bench ≡ fresh_bench limits s.bus.n s.bus.marks =
-    ap (λ (x : Fresh). x.bench) c.fresh-bench.ensures ∙ fresh-bench limits s.bus.n s.bus.marks in
+    let begun : c.fresh-made.result.bench ≡ fresh_bench limits s.bus.n s.bus.marks =
+    ap (λ (x : Fresh). x.bench) c.fresh-made.ensures ∙ fresh-bench limits s.bus.n s.bus.marks in
     let rows = put_then c.row.ensures.text (rw (part_to_end bs s.start) at c.rows.ensures.text) in
     let text : PutAt (traced limits bs) c.args.out.now 0 c.rows.new.self.out.now c.rows.new.self.length =
     rw (← trace-played bs s read) (rw begun at rows) in

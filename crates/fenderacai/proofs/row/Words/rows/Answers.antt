@@ -37,7 +37,8 @@ loop-k-preserved c =
     let at : ℕ = event_bytes * l.k in
     let e : Event = event_from (drop at bs) in
     let event : c.read.result ≡ e = c.read.ensures ∙ ap event_from (part_to_end bs at) in
-    let came = event_played limits l.bench _ _ e _ _ event c.apply-answer.ensures.0 c.apply-answer.ensures.1 c.number_of.ensures in
+    let step = c.step-answer.ensures in
+    let came = event_played limits l.bench _ _ e _ _ event step.answer step.bench c.number_of.ensures in
     rw came.0 (rows_next c.args.bench.now l.bench l.k bs l.invariant (rw (came.1, came.0) at c.row.ensures))
 
 pub returns : goal.returns
