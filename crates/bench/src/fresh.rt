@@ -49,7 +49,7 @@ impl Bench {
     // Nothing has happened yet on this bench.
     #[inline(always)]
     #[tactic(auto, unfolding(crate::specs::Setups::bench_of))]
-    fn of(n: u8, sound: BoardSet) -> Bench
+    pub(crate) fn of(n: u8, sound: BoardSet) -> Bench
         ensures { result ≡ bench_of limits n sound }
     {
         Bench {
@@ -65,7 +65,10 @@ impl Bench {
     // there is one, which is sound, since a refused call gives a bench (a rule of the project).
     #[inline(always)]
     #[tactic(auto, using(crate::proofs::MakingLaws::bus_size), unfolding(crate::specs::Setups::fresh_answer, crate::specs::Setups::setup_by))]
-    fn setup(n: u8, marks: &[u8; Bench::BOARDS as usize]) -> (u8, BoardSet, Result<(), SetupFault>)
+    pub(crate) fn setup(
+        n: u8,
+        marks: &[u8; Bench::BOARDS as usize],
+    ) -> (u8, BoardSet, Result<(), SetupFault>)
         ensures count { result.0 ≡ (setup limits n marks.now).n }
         ensures sound { result.1 ≡ (setup limits n marks.now).sound }
         ensures answer { result.2 ≡ fresh_answer limits n marks.now }
