@@ -52,29 +52,26 @@ fn line(case: &Case, what: &str, cost: &Cost) -> String {
 
 /// The median cost of one unit of a case on both sides.
 fn measure(case: &Case, library: &mut impl Side, model: &mut impl Side, runs: usize) -> Cost {
-    let mut costs: Vec<Cost> = Vec::with_capacity(runs);
+    let (mut of_library, mut of_model) = (Vec::new(), Vec::new());
     for run in 0..WARMING + runs {
-        let cost = Cost {
-            library: unit_cost(case, library),
-            model: unit_cost(case, model),
-        };
-        if run >= WARMING {
-            costs.push(cost);
+        if run == WARMING {
+            of_library.clear();
+            of_model.clear();
         }
+        of_library.extend((0..case.times).map(|_| unit_cost(case, library)));
+        of_model.extend((0..case.times).map(|_| unit_cost(case, model)));
     }
     Cost {
-        library: median(costs.iter().map(|cost| cost.library)),
-        model: median(costs.iter().map(|cost| cost.model)),
+        library: median(of_library),
+        model: median(of_model),
     }
 }
 
 /// What one unit costs: the files with it less the files without it, shared out.
 fn unit_cost(case: &Case, side: &mut impl Side) -> f64 {
-    let mut left = 0.0;
-    for _ in 0..case.times {
-        left += time(case, &case.with, side) - time(case, &case.without, side);
-    }
-    left / (case.times * case.units) as f64
+    let without = time(case, &case.without, side);
+    let with = time(case, &case.with, side);
+    (with - without) / case.units as f64
 }
 
 /// How many nanoseconds the files take together.
@@ -87,10 +84,9 @@ fn time(case: &Case, files: &[Vec<u8>], side: &mut impl Side) -> f64 {
 }
 
 /// The middle one of the numbers, of which there is at least one.
-fn median(numbers: impl Iterator<Item = f64>) -> f64 {
-    let mut sorted: Vec<f64> = numbers.collect();
-    sorted.sort_by(f64::total_cmp);
-    sorted[sorted.len() / 2]
+fn median(mut numbers: Vec<f64>) -> f64 {
+    numbers.sort_by(f64::total_cmp);
+    numbers[numbers.len() / 2]
 }
 
 #[cfg(test)]
@@ -100,7 +96,7 @@ mod tests {
 
     #[test]
     fn the_median_is_the_middle_one() {
-        assert_eq!(median([5.0, 1.0, 9.0].into_iter()), 5.0);
+        assert_eq!(median(vec![5.0, 1.0, 9.0]), 5.0);
     }
 
     /// A library that only sleeps is seen to be slower than the model.
