@@ -1,16 +1,13 @@
 -- Laws of rows 11 to 21, of an event of a kind that there is: what the table says where one of them applies, and where none
 -- does, and what then holds of the board that the event is for. Assumes nothing.
 use native.Mathlib.Omega.{arith}
-use mathlib.Core.Path.{◌≡◌, sym, ◌∙◌}
+use mathlib.Core.Path.{◌≡◌}
 use mathlib.Core.Bool.{Bool, true, false}
 use mathlib.Core.List.{List, ◌++◌}
 use Rattle.std.specs.Prelude.{Ok, Err}
 use Rattle.std.proofs.lemmas.Bool.Decides.{nat_tests}
 use Rattle.delivery.specs.Limits.{Limits}
-use Rattle.vote.specs.Calls.{announcement}
-use Rattle.vote.proofs.BoardLaws.{going-voting}
-use Rattle.vote.proofs.CallLaws.{taken-leaves}
-use Rattle.vote.proofs.LifeLaws.{call-comes}
+use Rattle.vote.proofs.BoardLaws.{going-voting, convinced-decides}
 use Rattle.bench.specs.Answers.{is_accepted}
 use Rattle.bench.specs.Benches.{board_at}
 use Rattle.bench.specs.Events.{turning, announcing}
@@ -46,11 +43,9 @@ module _ (L : Limits) (c : Bench) (e : Event) (t : kind_row e ≡ false) where
     pub rows-convinced : e.kind ≡ announcing → IsConvinced L c e
     unfolding is_accepted first_of turn_row
     rows-convinced i =
-        let b = board_at L c e.a in
-        let call = announcement e.id e.value in
         let ok : is_accepted (check_of L c e) ≡ true = grind (arith, nat_tests, rows-pass) in
         let convinced = (passed-accepted L c e (accepted-passed L c e ok)).convinced i in
-        sym (call-comes L c.n e.a b call) ∙ taken-leaves L c.n e.a b call convinced
+        convinced-decides L c.n (board_at L c e.a) e.id e.value convinced
 
 -- what an event goes by
 pub ruleset rows_passed = (kind-passes, rows-stop, rows-pass, rows-voting, rows-convinced)

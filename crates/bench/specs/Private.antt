@@ -1,6 +1,7 @@
 -- What private calls alone promise by; whoever believes the open calls need not read it.
 use Rattle.std.specs.Prelude.{ℕ, ◌≡◌}
 use Rattle.delivery.specs.Limits.{Limits}
+use Rattle.vote.specs.Boards.{with_status}
 use Rattle.vote.specs.Announcements.{announce}
 use Rattle.vote.specs.declared.board.Decision.{Decision}
 use Rattle.vote.specs.declared.board.Status.TheVariants.{Voting, Decided}
@@ -19,4 +20,4 @@ announced e = record { round = record { 0 = e.id }; value = e.value }
 -- the board that an announcement is for decides that: no row before row 22 refuses it
 abbrev pub IsConvinced : Limits → Bench → Event → Type 0
 IsConvinced L c e =
-    announce L c.n (board_at L c e.a) e.id e.value ≡ record (board_at L c e.a) { status = Decided (announced e) }
+    announce L c.n (board_at L c e.a) e.id e.value ≡ with_status (board_at L c e.a) (Decided (announced e))

@@ -98,7 +98,7 @@ impl Bench {
             Kind::Deliver => self.hear(e.a, e.brought()),
             Kind::Announce => self.change(
                 e.a,
-                |board| board.status = Status::Decided(e.announced()),
+                |board| board.decide(e.announced()),
             ),
             Kind::Suspect => self.change(e.a, |board| board.suspect(e.b)),
             Kind::Trust => self.change(e.a, |board| board.trust(e.b)),

@@ -9,8 +9,8 @@ use Rattle.delivery.specs.Limits.{Limits}
 use Rattle.delivery.specs.Delivered.{nothing_delivered, heard}
 use Rattle.delivery.proofs.AgreementLaws.{Won}
 use Rattle.vote.specs.Ballots.{tally}
-use Rattle.vote.specs.Boards.{fresh_position, fresh_board, is_started, is_decided, is_ended, has_decided, decision_of}
-use Rattle.vote.specs.Announcements.{convinced}
+use Rattle.vote.specs.Boards.{fresh_position, fresh_board, is_started, is_decided, is_ended, has_decided, decision_of, with_status}
+use Rattle.vote.specs.Announcements.{convinced, announce}
 use Rattle.vote.specs.declared.board.Board.{Board}
 use Rattle.vote.specs.Turns.{status_after}
 use Rattle.vote.specs.declared.rule.Move.{Move}
@@ -28,6 +28,12 @@ pub record Convinced (L : Limits) (n : ℕ) (b : Board) (r v : ℕ) : Type 0 whe
 pub reads-convinced : (L : Limits) (n : ℕ) (b : Board) (r v : ℕ) → Convinced L n b r v → convinced L n b r v ≡ true
 unfolding convinced is_decided tally
 reads-convinced L n b r v c = grind (arith, nat_tests)
+
+-- it decides that
+pub convinced-decides : (L : Limits) (n : ℕ) (b : Board) (r v : ℕ) → Convinced L n b r v
+    → announce L n b r v ≡ with_status b (Decided (decision_of r v))
+unfolding announce
+convinced-decides L n b r v c = let t = reads-convinced L n b r v c in grind arith
 
 -- for the crates above: a fresh board
 pub fresh-is : (L : Limits)
