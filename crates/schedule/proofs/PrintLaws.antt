@@ -1,5 +1,5 @@
 -- Laws of what is printed: texts put one after another, and how long the lines are. Assumes nothing.
-use Prim.Native.Nat.{ℕ, zero, suc, ◌+◌, ◌*◌, ◌/◌, ◌%◌, ◌≤◌, ◌<◌}
+use Prim.Native.Nat.{◌-◌, ℕ, zero, suc, ◌+◌, ◌*◌, ◌/◌, ◌%◌, ◌≤◌, ◌<◌}
 use native.Mathlib.Nat.{zero-add, add-zero}
 use native.Mathlib.Numerals.{add-one}
 use native.Mathlib.Omega.{arith}
@@ -85,21 +85,23 @@ unfolding front
 front-last m f = grind (arith, nat_tests, decimal_digit, decimal_step)
 
 pub number-digits : (m : ℕ) → Fits w16 m → decimal m
-    ≡ (((last_digit (m / 10000) ++ last_digit (m / 1000)) ++ last_digit (m / 100)) ++ last_digit (m / 10))
-    ++ (48 + m % 10) ∷ []
+    ≡ (((last_digit (m / 10 / 10 / 10 / 10) ++ last_digit (m / 10 / 10 / 10)) ++ last_digit (m / 10 / 10)) ++ last_digit (m / 10))
+    ++ (48 + (m - 10 * (m / 10))) ∷ []
 unfolding front
 number-digits m f =
+    let one : m % 10 ≡ m - 10 * (m / 10) = omega arith in
     rw (
       front-last m f,
-      front-more (m / 10) (m / 100) (omega arith) (omega arith),
-      front-more (m / 100) (m / 1000) (omega arith) (omega arith),
-      front-more (m / 1000) (m / 10000) (omega arith) (omega arith),
-      front-more (m / 10000) 0 (omega arith) (omega arith),
+      front-more (m / 10) (m / 10 / 10) (omega arith) (omega arith),
+      front-more (m / 10 / 10) (m / 10 / 10 / 10) (omega arith) (omega arith),
+      front-more (m / 10 / 10 / 10) (m / 10 / 10 / 10 / 10) (omega arith) (omega arith),
+      front-more (m / 10 / 10 / 10 / 10) 0 (omega arith) (omega arith),
+      one,
     )
     refl
 
 pub length-digits : (m : ℕ) → Fits w16 m → length (decimal m)
-    ≡ length (last_digit (m / 10000)) + length (last_digit (m / 1000)) + length (last_digit (m / 100))
+    ≡ length (last_digit (m / 10 / 10 / 10 / 10)) + length (last_digit (m / 10 / 10 / 10)) + length (last_digit (m / 10 / 10))
     + length (last_digit (m / 10)) + 1
 length-digits m f = rw (number-digits m f) (simp length-append (omega arith))
 

@@ -1,4 +1,4 @@
-ghost use Rattle.std.specs.Prelude.{◌+◌, ◌≤◌, ◌≡◌, [], ◌∷◌, length, decimal};
+ghost use Rattle.std.specs.Prelude.{◌+◌, ◌/◌, ◌≤◌, ◌≡◌, [], ◌∷◌, length, decimal};
 ghost use Rattle.delivery.specs.Limits.{limits};
 ghost use Rattle.schedule.specs.Prints.{event_line, board_line, refused_line, longest_print};
 ghost use Rattle.schedule.specs.Private.{last_digit, Puts};
@@ -30,31 +30,36 @@ impl Text<'_> {
         self.length += 1;
     }
 
-    // The last digit of a number; none of 0.
+    // The last digit of a number, of which a tenth is known; none of 0.
     #[inline(always)]
     #[tactic(auto, unfolding(crate::specs::Private::last_digit))]
-    fn digit(&mut self, m: u16)
-        requires { self.old.length + length (last_digit m) ≤ longest_print limits }
+    fn digit(&mut self, m: u16, tenth: u16)
+        requires tenth { tenth ≡ m / 10 }
+        requires room { self.old.length + length (last_digit m) ≤ longest_print limits }
         ensures { Puts (last_digit m) self.old.out self.old.length self.new.out self.new.length }
     {
         if m > 0 {
-            self.put(b'0' + (m % 10) as u8);
+            self.put(b'0' + (m - 10 * tenth) as u8);
         }
     }
 
     // A number in decimal. Digit by digit, and not by the kit's `itoa`: that makes a text of its own in a loop, which would
-    // be copied in another.
+    // be copied in another. Each quotient serves two digits, so there is one division for a digit.
     #[inline(always)]
     #[tactic(auto, using(crate::proofs::PrintLaws::number_digits))]
     pub(crate) fn number(&mut self, m: u16)
         requires { self.old.length + length (decimal m) ≤ longest_print limits }
         ensures { Puts (decimal m) self.old.out self.old.length self.new.out self.new.length }
     {
-        self.digit(m / 10000);
-        self.digit(m / 1000);
-        self.digit(m / 100);
-        self.digit(m / 10);
-        self.put(b'0' + (m % 10) as u8);
+        let tens = m / 10;
+        let hundreds = tens / 10;
+        let thousands = hundreds / 10;
+        let rest = thousands / 10;
+        self.digit(rest, 0);
+        self.digit(thousands, rest);
+        self.digit(hundreds, thousands);
+        self.digit(tens, hundreds);
+        self.put(b'0' + (m - 10 * tens) as u8);
     }
 
     // A text as it stands.
