@@ -154,7 +154,7 @@ impl<'a> Poll<'a> {
         if self.n == 0 {
             return Allowance::Every;
         }
-        // in no round after the last is a ballot heard
+        // in no round after the last is a ballot heard, so nothing is allowed from the second after it on
         if self.round.0 > Round::LAST + 1 {
             return Allowance::Nothing;
         }
