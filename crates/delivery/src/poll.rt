@@ -181,6 +181,7 @@ impl<'a> Poll<'a> {
     }
 
     // The entry of the round's opening where that is accepted; 0, which is none, where it is not.
+    #[inline(always)]
     #[tactic(auto, using(crate::proofs::AllRoundsLaws::openings))]
     pub fn opened(&self) -> u32
         ensures { result ≡ opened_entry limits self.now.n (heard limits self.now.delivered) self.now.round }
@@ -194,6 +195,7 @@ impl<'a> Poll<'a> {
     }
 
     // What is accepted of the round: its opening, and the ballots.
+    #[inline(always)]
     #[tactic(auto, using(crate::proofs::PollLaws::tallied))]
     pub fn tally(&self) -> Tally
         ensures { result ≡ tally_of limits self.now.n (heard limits self.now.delivered) self.now.round }
