@@ -105,7 +105,8 @@ module _ (L : Limits) (n : ℕ) (h : Store) (r : ℕ) where
   opened-entry w = grind (arith, nat_tests, opened-allowed, allowed-blank L n h r)
 
   -- and what the accepted opening bears, an accepted ballot bears as soon as a ballot does
-  pub opened-backs : (s : ℕ) → says (opened_entry L n h r) (accepts_ballot L n h r s) ≡ backs L h r (opened_entry L n h r) s
+  pub opened-backs : (s : ℕ)
+      → says (opened_entry L n h r) (accepts_ballot L n h r s) ≡ backs L h r (opened_entry L n h r) s
   unfolding says backs accepts_ballot counts accepts_opening
   opened-backs s = grind (arith, nat_tests, opened-entry)
 

@@ -104,7 +104,8 @@ module _ (L : Limits) (n : ℕ) (h : Store) where
       fun_ext
       (λ w.
       let same-lets : lets a w ≡ allowed L n h r w = ap (λ (p : ℕ → Bool). p w) f in
-      let accepted = λ (e : x ≡ entry_of w). opening-reads L n h r w (grind (arith, nat_tests, opened-entry L n h r w)) in
+      let opened = opened-entry L n h r w in
+      let accepted = λ (e : x ≡ entry_of w). opening-reads L n h r w (grind (arith, nat_tests, opened)) in
       let passes : x ≡ entry_of w → lets a w ≡ true = λ e. same-lets ∙ (accepted e).permitted in
       let next = settled a (quorum n) (overlap n) x b c w (omega (arith, some)) passes in
       let later = later-counts L n h r w low (omega (arith, some)) in
@@ -115,14 +116,17 @@ late : (L : Limits) (n : ℕ) (d : Delivered) (r w : ℕ) → (n ≡ 0 → ⊥) 
     → allowed L n (heard L d) (r + 1) w ≡ false
 unfolding by-counts backs bears says
 late L n d r w some low l =
-    let none = false_from_ne_true (is_round L r) (λ t. omega (arith, within-high L.rounds r t)) in
+    let h = heard L d in
     let i = identifier_of L Ballot r in
-    let outside = false_from_ne_true (is_identifier L.identifiers i) (λ t. omega (arith, within_low L.identifiers i t, identifier-none L Ballot r none)) in
-    let silent = λ (s : ℕ). heard-outside L d s i outside in
-    let blanks = count-none n (bears L (heard L d) r 0) (λ s a b. grind (arith, nat_tests, silent s)) in
-    let backs = count-none n (backs L (heard L d) r (entry L n (heard L d) r)) (λ s a b. grind (arith, nat_tests, silent s)) in
-    let counts = later-counts L n (heard L d) r w low (omega (arith, some)) in
-    grind (arith, nat_tests, counts, blanks, backs, overlap-pos n, overlap-le n)
+    let past = false_from_ne_true (is_round L r) (λ t. omega (arith, within-high L.rounds r t)) in
+    let zero = identifier-none L Ballot r past in
+    let none =
+    false_from_ne_true (is_identifier L.identifiers i) (λ t. omega (arith, zero, within_low L.identifiers i t)) in
+    let silent = λ (s : ℕ). heard-outside L d s i none in
+    let blanks = count-none n (bears L h r 0) (λ s a b. grind (arith, nat_tests, silent s)) in
+    let backers = count-none n (backs L h r (entry L n h r)) (λ s a b. grind (arith, nat_tests, silent s)) in
+    let counts = later-counts L n h r w low (omega (arith, some)) in
+    grind (arith, nat_tests, counts, blanks, backers, overlap-pos n, overlap-le n)
 
 pub nothing-late : (L : Limits) (n : ℕ) (d : Delivered) (r : ℕ) → (n ≡ 0 → ⊥) → L.rounds + 1 < r
     → lets Nothing ≡ allowed L n (heard L d) r

@@ -83,7 +83,8 @@ second : (n : ℕ) (d : Delivered) (b c : ℕ) (a : Allowance) → Tallied n d b
 unfolding says lets
 second n d b c a k l w =
     let h = heard limits d in
-    let next = pass-turn limits n h Every a 1 10 b c (every_first limits n h) l (omega arith) (rw k.0 refl) k.1 k.2 k.3 in
+    let first = every_first limits n h in
+    let next = pass-turn limits n h Every a 1 10 b c first l (omega arith) (rw k.0 refl) k.1 k.2 k.3 in
     ap (λ (p : ℕ → Bool). p w) (sym next)
 
 tallies : (Tallied 3 nine-blank 1 1 (Only 10))

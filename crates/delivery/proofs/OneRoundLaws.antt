@@ -244,7 +244,9 @@ module _ (L : Limits) (n : ℕ) (h : Store) (r : ℕ) where
         reason : (overlap n ≤ among p w) ⊎ (Below p (overlap n) × (allowed L n h r w ≡ true))
         reason =
             ⊎_elim
-            (λ t. inl (omega (arith, back, t.1, value-among p w z (grind (arith, nat_tests, t.0, opened-entry L n h r w)))))
+            (λ t.
+            let o = opened-entry L n h r w in
+            inl (omega (arith, back, t.1, value-among p w z (grind (arith, nat_tests, t.0, o)))))
             (λ t. inr (λ v y. omega (arith, t.1, few v y), t.0))
             t
 

@@ -3,7 +3,7 @@ use Rattle.std.specs.Prelude.{◌==◌, ◌&&◌, ◌||◌, not}
 use Prim.Native.Nat.{ℕ, ◌≤◌, min, ◌<◌}
 use native.Mathlib.Omega.{arith}
 use mathlib.Core.Path.{◌≡◌, refl, sym, ◌∙◌}
-use mathlib.Core.Bool.{false}
+use mathlib.Core.Bool.{Bool, false}
 use mathlib.Core.Logic.{inl}
 use mathlib.Core.List.{List}
 use Rattle.std.proofs.lemmas.Bool.{false_from_ne_true}
@@ -41,30 +41,26 @@ module _ (L : Limits) (es : List ℕ) (r : ℕ) where
   unfolding backs says bears
   backs-test x s i e = grind (arith, nat_tests)
 
-  -- so a search among the boards that there can be finds all of 1 to n whose ballots are so
-  pub blank-found : (n : ℕ)
-      → set_of (min n L.boards) (bears L (heard_in L es) r 0) ≡ set_of n (bears L (heard_in L es) r 0)
-  unfolding bears
-  blank-found n =
-      sym (set_beyond n L.boards (bears L (heard_in L es) r 0) (λ s l. grind (arith, nat_tests, silent s l)))
-
+  -- so a search among the boards that there can be finds all of 1 to n whose ballots are so, and counts them
   pub backs-found : (n x : ℕ)
       → set_of (min n L.boards) (backs L (heard_in L es) r x) ≡ set_of n (backs L (heard_in L es) r x)
   unfolding backs says bears
-  backs-found n x =
-      sym (set_beyond n L.boards (backs L (heard_in L es) r x) (λ s l. grind (arith, nat_tests, silent s l)))
-
-  pub blank-counted : (n : ℕ)
-      → count_in (min n L.boards) (bears L (heard_in L es) r 0) ≡ count_in n (bears L (heard_in L es) r 0)
-  unfolding bears
-  blank-counted n =
-      sym (count_beyond n L.boards (bears L (heard_in L es) r 0) (λ s l. grind (arith, nat_tests, silent s l)))
+  backs-found n x = sym (set_beyond n L.boards _ (λ s l. grind (arith, nat_tests, silent s l)))
 
   pub backs-counted : (n x : ℕ)
       → count_in (min n L.boards) (backs L (heard_in L es) r x) ≡ count_in n (backs L (heard_in L es) r x)
   unfolding backs says bears
-  backs-counted n x =
-      sym (count_beyond n L.boards (backs L (heard_in L es) r x) (λ s l. grind (arith, nat_tests, silent s l)))
+  backs-counted n x = sym (count_beyond n L.boards _ (λ s l. grind (arith, nat_tests, silent s l)))
+
+  pub blank-found : (n : ℕ)
+      → set_of (min n L.boards) (bears L (heard_in L es) r 0) ≡ set_of n (bears L (heard_in L es) r 0)
+  unfolding backs says
+  blank-found n = backs-found n (entry_of 0)
+
+  pub blank-counted : (n : ℕ)
+      → count_in (min n L.boards) (bears L (heard_in L es) r 0) ≡ count_in n (bears L (heard_in L es) r 0)
+  unfolding backs says
+  blank-counted n = backs-counted n (entry_of 0)
 
 -- what is found is accepted, where the opening's entry is that of the accepted one
 module _ (L : Limits) (n : ℕ) (h : Store) (r : ℕ) where
@@ -75,42 +71,46 @@ module _ (L : Limits) (n : ℕ) (h : Store) (r : ℕ) where
       → set_of n (backs L h r x) ≡ set_of n (λ (s : ℕ). says (opened_entry L n h r) (accepts_ballot L n h r s))
   backing-accepted x e = rw e (set-cong n _ _ (λ s a b. sym (opened-backs L n h r s)))
 
-  blanks : (w : ℕ) → w ≡ 0
-      → set_of n (λ (s : ℕ). accepts_ballot L n h r s 0) ≡ set_of n (λ (s : ℕ). accepts_ballot L n h r s w)
-  blanks w e = rw e refl
+  -- the boards whose accepted ballots bear w: those of the blank ones, or of those for the opening
+  abbrev bearing : ℕ → ℕ
+  bearing w = set_of n (λ (s : ℕ). accepts_ballot L n h r s w)
 
-  pub backing-bears : (w : ℕ) → opened_entry L n h r ≡ entry_of w
-      → set_of n (λ (s : ℕ). says (opened_entry L n h r) (accepts_ballot L n h r s)) ≡ set_of n (λ (s : ℕ). accepts_ballot L n h r s w)
+  blank-bears : (w : ℕ) → w ≡ 0 → (tally_of L n h r).blank ≡ bearing w
+  blank-bears w e = rw e refl
+
+  pub backing-bears : (w : ℕ) → opened_entry L n h r ≡ entry_of w → (tally_of L n h r).backing ≡ bearing w
   unfolding says
   backing-bears w e = rw e refl
 
   -- so of the tally, the boards whose ballots bear a value are those whose accepted ballots do
-  pub bearers-tallied : (w : ℕ)
-      → bearers (tally_of L n h r) w ≡ set_of n (λ (s : ℕ). accepts_ballot L n h r s w)
+  pub bearers-tallied : (w : ℕ) → bearers (tally_of L n h r) w ≡ bearing w
   unfolding bearers
   bearers-tallied w =
       let none = λ (z : w ≡ 0 → ⊥) (f : accepts_opening L n h r w ≡ false).
       set-none n (λ (s : ℕ). accepts_ballot L n h r s w) (λ s a b. ballot-unopened L n h r s w z f) in
-      grind (arith, nat_tests, blanks w, none, backing-bears w, opened-entry L n h r w)
+      grind (arith, nat_tests, blank-bears w, none, backing-bears w, opened-entry L n h r w)
 
 module _ (L : Limits) (es : List ℕ) (r n : ℕ) where
-  -- and those with a ballot are those with an accepted one
-  pub ballots-tallied : L.boards ≤ bits
-      → union (tally_of L n (heard_in L es) r).blank (tally_of L n (heard_in L es) r).backing
-      ≡ set_of n (accepts_some L n (heard_in L es) r)
-  unfolding says bears counts counts_some accepts_opening accepts_ballot accepts_some
-  ballots-tallied l =
-      let h = heard_in L es in
-      let fits = set-fits n L.boards _ (λ s g. none s g) l in
-      union-sets n _ _ fits ∙ set-cong n _ _ (λ s a b. either s)
-    where
-      either : (s : ℕ) → (accepts_ballot L n (heard_in L es) r s 0 || says (opened_entry L n (heard_in L es) r) (accepts_ballot L n (heard_in L es) r s))
-          ≡ accepts_some L n (heard_in L es) r s
-      either s = grind (arith, nat_tests, opened-backs L n (heard_in L es) r s, opened-entry L n (heard_in L es) r)
+  abbrev h : Store
+  h = heard_in L es
 
-      none : (s : ℕ) → L.boards < s
-          → (accepts_ballot L n (heard_in L es) r s 0 || says (opened_entry L n (heard_in L es) r) (accepts_ballot L n (heard_in L es) r s)) ≡ false
-      none s g = grind (arith, nat_tests, silent L es r s g)
+  -- and those with a ballot, in either of its sets, are those with an accepted one
+  either : ℕ → Bool
+  either s = accepts_ballot L n h r s 0 || says (opened_entry L n h r) (accepts_ballot L n h r s)
+
+  either-accepted : (s : ℕ) → either s ≡ accepts_some L n h r s
+  unfolding either says bears counts counts_some accepts_opening accepts_ballot accepts_some
+  either-accepted s = grind (arith, nat_tests, opened-backs L n h r s, opened-entry L n h r)
+
+  either-board : (s : ℕ) → L.boards < s → either s ≡ false
+  unfolding either says bears counts accepts_ballot
+  either-board s g = grind (arith, nat_tests, silent L es r s g)
+
+  pub ballots-tallied : L.boards ≤ bits
+      → union (tally_of L n h r).blank (tally_of L n h r).backing ≡ set_of n (accepts_some L n h r)
+  unfolding either
+  ballots-tallied l =
+      union-sets n _ _ (set-fits n L.boards either either-board l) ∙ set-cong n _ _ (λ s a b. either-accepted s)
 
 -- for the functions
 pub ruleset scanning = (

@@ -50,8 +50,8 @@ impl Tally {
 #[derive(Clone, Copy)]
 struct Scan {
     tally: Tally,
-    blank: u8,
-    backing: u8,
+    blank_count: u8,
+    backing_count: u8,
 }
 
 // A round among n boards, as one board has heard it.
@@ -93,8 +93,8 @@ impl<'a> Poll<'a> {
     #[tactic(auto, using(crate::proofs::PollLaws::scanning), unfolding(crate::specs::Sets::set_of, crate::specs::Counting::count_in))]
     fn scan(&self, opening: u32) -> Scan
         ensures tally { result.tally ≡ record { opening = opening; blank = set_of self.now.n (bears limits (heard limits self.now.delivered) self.now.round 0); backing = set_of self.now.n (backs limits (heard limits self.now.delivered) self.now.round opening) } }
-        ensures blank { result.blank ≡ count_in self.now.n (bears limits (heard limits self.now.delivered) self.now.round 0) }
-        ensures backing { result.backing ≡ count_in self.now.n (backs limits (heard limits self.now.delivered) self.now.round opening) }
+        ensures blank { result.blank_count ≡ count_in self.now.n (bears limits (heard limits self.now.delivered) self.now.round 0) }
+        ensures backing { result.backing_count ≡ count_in self.now.n (backs limits (heard limits self.now.delivered) self.now.round opening) }
     {
         let id = self.round.identifier(Phase::Ballot);
         let mut blank = BoardSet::empty();
@@ -119,8 +119,8 @@ impl<'a> Poll<'a> {
                 blank,
                 backing,
             },
-            blank: blank_count,
-            backing: backing_count,
+            blank_count,
+            backing_count,
         }
     }
 
@@ -128,7 +128,7 @@ impl<'a> Poll<'a> {
     pub fn count_bearing(&self, entry: u32) -> u8
         ensures { result ≡ count_in self.now.n (backs limits (heard limits self.now.delivered) self.now.round entry) }
     {
-        self.scan(entry).backing
+        self.scan(entry).backing_count
     }
 
     // The entry of the opening that the round's coordinator sent.
@@ -154,7 +154,7 @@ impl<'a> Poll<'a> {
         if self.n == 0 {
             return Allowance::Every;
         }
-        // in no round after the last is a ballot heard
+        // in no round after the last is a ballot heard, so nothing is allowed from the second after it on
         if self.round.0 > Round::LAST + 1 {
             return Allowance::Nothing;
         }
@@ -163,7 +163,7 @@ impl<'a> Poll<'a> {
             let earlier = self.delivered.poll(self.n, Round(r));
             let opening = allowance.opened(earlier.opening());
             let scan = earlier.scan(opening);
-            allowance = allowance.settled(self.n, opening, scan.blank, scan.backing);
+            allowance = allowance.settled(self.n, opening, scan.blank_count, scan.backing_count);
         }
         allowance
     }
@@ -181,6 +181,7 @@ impl<'a> Poll<'a> {
     }
 
     // The entry of the round's opening where that is accepted; 0, which is none, where it is not.
+    #[inline(always)]
     #[tactic(auto, using(crate::proofs::AllRoundsLaws::openings))]
     pub fn opened(&self) -> u32
         ensures { result ≡ opened_entry limits self.now.n (heard limits self.now.delivered) self.now.round }
@@ -194,6 +195,7 @@ impl<'a> Poll<'a> {
     }
 
     // What is accepted of the round: its opening, and the ballots.
+    #[inline(always)]
     #[tactic(auto, using(crate::proofs::PollLaws::tallied))]
     pub fn tally(&self) -> Tally
         ensures { result ≡ tally_of limits self.now.n (heard limits self.now.delivered) self.now.round }

@@ -91,11 +91,11 @@ impl<'a> Case<'a> {
 
     // Who has an accepted ballot of a round, and who has one with a value.
     fn write_ballots(&self, round: u8, value: u16) -> io::Result<()> {
-        let poll = self.delivered.poll(self.n, Round(round));
+        let tally = self.delivered.poll(self.n, Round(round)).tally();
         print!(self.rt; "  accepted ballots:")?;
-        write_set(self.rt, poll.ballots())?;
+        write_set(self.rt, tally.ballots())?;
         print!(self.rt; "  of these with {value}:")?;
-        write_set(self.rt, poll.ballots_for(value))
+        write_set(self.rt, tally.ballots_for(value))
     }
 
     // The accepted ballots of round 1, and what is allowed in round 2, at some values.

@@ -49,6 +49,7 @@ impl Position {
 
     // Stage C. The board may count once a quorum has ballots, and every board without one is suspected. By sets: tried as a
     // chain over the boards, `(1..=n).all(..)`, whose proof did not close.
+    #[inline(never)]
     #[tactic(auto, using(crate::proofs::RuleLaws::counts), unfolding(crate::specs::Rule::count_move, crate::specs::Rule::onward, crate::specs::Rule::next_estimate))]
     fn count_move(&self, n: u8, delivered: &Delivered) -> Move
         ensures { result ≡ count_move limits n self.now (heard limits delivered.now) }

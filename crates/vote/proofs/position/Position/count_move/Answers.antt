@@ -13,7 +13,8 @@ unfolding count_move onward next_estimate
 returns-then-backing-max c =
     let h = heard limits c.args.delivered.now in
     let told = rw c.poll.ensures at c.tally-tally.ensures in
-    let borne = with-tallied limits c.args.n h c.args.self.now.round.0 _ c.if-value-eq-BLANK.backing told (grind (arith, nat_tests)) in
+    let backing = c.if-value-eq-BLANK.backing in
+    let borne = with-tallied limits c.args.n h c.args.self.now.round.0 _ backing told (grind (arith, nat_tests)) in
     grind (arith, nat_tests, borne, counts)
 
 pub returns-then-self-lt-LAST : goal.returns-then-self-lt-LAST
@@ -21,7 +22,8 @@ unfolding count_move onward next_estimate
 returns-then-self-lt-LAST c =
     let h = heard limits c.args.delivered.now in
     let told = rw c.poll.ensures at c.tally-tally.ensures in
-    let borne = with-tallied limits c.args.n h c.args.self.now.round.0 _ c.if-value-eq-BLANK.backing told (grind (arith, nat_tests)) in
+    let backing = c.if-value-eq-BLANK.backing in
+    let borne = with-tallied limits c.args.n h c.args.self.now.round.0 _ backing told (grind (arith, nat_tests)) in
     grind (arith, nat_tests, borne, counts)
 
 pub returns : goal.returns
@@ -29,5 +31,6 @@ unfolding count_move onward next_estimate
 returns c =
     let h = heard limits c.args.delivered.now in
     let told = rw c.poll.ensures at c.tally-tally.ensures in
-    let borne = with-tallied limits c.args.n h c.args.self.now.round.0 _ c.if-value-eq-BLANK.backing told (grind (arith, nat_tests)) in
+    let backing = c.if-value-eq-BLANK.backing in
+    let borne = with-tallied limits c.args.n h c.args.self.now.round.0 _ backing told (grind (arith, nat_tests)) in
     grind (arith, nat_tests, borne, counts)
