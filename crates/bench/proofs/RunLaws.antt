@@ -141,3 +141,23 @@ pub history-written : (L : Limits) (c : Bench) (es : List Event) (buf : List ℕ
     → history_of es (written (answers_to L c es) buf) ≡ history_of es (answers_to L c es)
 unfolding written
 history-written L c es buf = history-append L c es (drop (length (answers_to L c es)) buf)
+
+-- the bytes of one event are played as that event
+one-event : (bs : List ℕ) → length bs ≡ event_bytes → events_played bs 1 ≡ event_from bs ∷ []
+unfolding ending_of played_by
+one-event bs n =
+    let one : length bs / event_bytes ≡ 1 = omega (arith, n) in
+    let read : events_in (length bs / event_bytes) bs ≡ event_from bs ∷ [] =
+    rw (one, events-more 0 bs, events-none (drop event_bytes bs)) refl in
+    grind (arith, nat_tests, n, one, read)
+
+pub one-played : (L : Limits) (c : Bench) (bs : List ℕ) (m : ℕ) → length bs ≡ event_bytes → let x = step_of L c (event_from bs) in
+    (after L c (events_played bs 1) ≡ x.bench)
+    × (written (answers_to L c (events_played bs 1)) (m ∷ []) ≡ answer_number x.answer ∷ [])
+unfolding written
+one-played L c bs m n =
+    let e = event_from bs in
+    let x = step_of L c e in
+    let answers : answers_to L c (e ∷ []) ≡ answer_number x.answer ∷ [] =
+    answers-cons L c e [] ∙ ap (λ (ms : List ℕ). answer_number x.answer ∷ ms) (answers-nil L x.bench) in
+    rw (one-event bs n, answers) (after-cons L c e [] ∙ after-nil L x.bench, refl)

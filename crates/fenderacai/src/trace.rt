@@ -10,19 +10,21 @@ ghost use Rattle.fenderacai.specs.Traces.{rows_of, traced};
 use crate::row::{self, Words};
 use bench::{Bench, Event};
 use schedule::Schedule;
-use vote::number_of;
 
 impl Words<'_> {
-    // Plays so many events, and puts a row for each. By index: `count` says how many are played of a part that may be longer,
-    // so its pieces would be no plainer.
+    // Plays so many events, and puts a row for each. They are played as a list of one, by the call that plays a report's, so
+    // that whoever compares rows compares the player's own step. By index: `count` says how many are played of a part that
+    // may be longer, so its pieces would be no plainer.
     fn rows(&mut self, bench: &mut Bench, count: usize, events: &[u8])
         requires events { event_bytes * count ≤ length events.now }
         requires room { self.old.length + row_size limits * count ≤ length self.old.out.now }
         ensures { Puts (rows_of limits bench.old (events_in count events.now)) self.old.out self.old.length self.new.out self.new.length }
     {
         for k in 0..count {
-            let answer = bench.step(Event::read(&events[Event::BYTES * k..]));
-            self.row(number_of(answer), bench);
+            let at = Event::BYTES * k;
+            let mut answer = [0];
+            let _ = bench.play_on(&events[at..at + Event::BYTES], &mut answer);
+            self.row(answer[0], bench);
         }
     }
 }

@@ -1,15 +1,17 @@
 -- `Words::rows` meets its contract. Assumes nothing.
-use Prim.Native.Nat.{ℕ, ◌*◌}
+use Prim.Native.Nat.{ℕ, ◌+◌, ◌-◌, ◌*◌, ◌≤◌}
 use native.Mathlib.Omega.{arith}
-use mathlib.Core.Path.{◌≡◌, ap, ◌∙◌}
-use lib.ListN.{drop}
-use borrow.Author.Rules.{part_to_end}
+use mathlib.Core.Path.{◌≡◌, sym, ap, ◌∙◌}
+use mathlib.Core.List.{List, [], ◌∷◌}
+use lib.ListN.{length, take, drop, length-drop}
+use Rattle.std.proofs.lemmas.List.{length-take-le, take-append-drop}
 use Rattle.delivery.specs.Limits.{limits}
 use Rattle.bench.specs.Events.{event_bytes, event_from}
 use Rattle.bench.specs.Runs.{events_in}
 use Rattle.bench.specs.declared.event.Event.{Event}
-use Rattle.bench.proofs.AnswerLaws.{event_played}
-use Rattle.bench.proofs.RunLaws.{steps-nil, after-nil, events-none, length-events}
+use Rattle.bench.specs.Answers.{answer_number}
+use Rattle.bench.specs.Effects.{step_of}
+use Rattle.bench.proofs.RunLaws.{event-append, one-played, steps-nil, after-nil, events-none, length-events}
 use Rattle.schedule.proofs.PrintLaws.{put_size, puts_none}
 use Rattle.fenderacai.specs.Traces.{rows_of}
 use Rattle.fenderacai.proofs.TraceLaws.{length-rows, rows_next}
@@ -34,12 +36,19 @@ pub loop-k-preserved : goal.loop-k-preserved
 loop-k-preserved c =
     let l = c.loop-k in
     let bs = c.args.events.now in
-    let at : ℕ = event_bytes * l.k in
-    let e : Event = event_from (drop at bs) in
-    let event : c.read.result ≡ e = c.read.ensures ∙ ap event_from (part_to_end bs at) in
-    let step = c.step-answer.ensures in
-    let came = event_played limits l.bench _ _ e _ _ event step.answer step.bench c.number_of.ensures in
-    rw came.0 (rows_next c.args.bench.now l.bench l.k bs l.invariant (rw (came.1, came.0) at c.row.ensures))
+    let e : Event = event_from (drop (event_bytes * l.k) bs) in
+    let six : List ℕ = take event_bytes (drop (event_bytes * l.k) bs) in
+    let one : event_bytes * l.k + event_bytes - event_bytes * l.k ≡ event_bytes = omega arith in
+    let there : event_bytes ≤ length (drop (event_bytes * l.k) bs) = omega (arith, length-drop (event_bytes * l.k) bs, c.requires.events, c.loop-k-test.true) in
+    let size : length six ≡ event_bytes = length-take-le event_bytes (drop (event_bytes * l.k) bs) there in
+    let read : event_from six ≡ e =
+    sym (event-append six (drop event_bytes (drop (event_bytes * l.k) bs)) (omega (arith, size)))
+    ∙ ap event_from (take-append-drop event_bytes (drop (event_bytes * l.k) bs)) in
+    let x = step_of limits l.bench e in
+    let came = rw read at (one-played limits l.bench six 0 size) in
+    let bench : c.play_on.new.self ≡ x.bench = (rw one at c.play_on.ensures.bench) ∙ came.0 in
+    let answers : c.play_on.new.answers ≡ answer_number x.answer ∷ [] = (rw one at c.play_on.ensures.answers) ∙ came.1 in
+    rw bench (rows_next c.args.bench.now l.bench l.k bs l.invariant (rw (bench, answers) at c.row.ensures))
 
 pub returns : goal.returns
 returns c = let end : c.loop-k.k ≡ c.args.count = omega arith in rw end at c.loop-k.invariant.0
