@@ -108,7 +108,7 @@ unfolding ending_of played_by
 played-fits bs room = grind (arith, nat_tests, length-events)
 
 -- whole events for which there is room are played
-events-played : (k room : ℕ) (bs : List ℕ) → length bs ≡ event_bytes * k → k ≤ room
+pub events-played : (k room : ℕ) (bs : List ℕ) → length bs ≡ event_bytes * k → k ≤ room
     → events_played bs room ≡ events_in k bs
 unfolding ending_of played_by
 events-played k room bs e h = let count : length bs / event_bytes ≡ k = omega arith in grind (arith, nat_tests, count)

@@ -12,16 +12,17 @@ use Rattle.signer.proofs.FromOneLaws.{within-high, nth-index, nth-none}
 use Rattle.delivery.specs.Limits.{limits}
 use Rattle.bench.specs.Events.{event_bytes}
 use Rattle.bench.specs.Setups.{fresh_bench}
-use Rattle.bench.specs.Runs.{answers_to, written, played_of, answers_after}
+use Rattle.bench.specs.Runs.{after, answers_to, events_played, written}
 use Rattle.bench.proofs.SetupLaws.{fresh-alike}
-use Rattle.bench.proofs.RunLaws.{length-answers, played-bench, played-answers, nth-written}
-use Rattle.schedule.specs.Files.{fault, count_bytes, Contents, first_bench, file_due}
+use Rattle.bench.proofs.RunLaws.{length-answers, events-played}
+use Rattle.schedule.specs.Files.{fault, count_bytes, most_events, Contents, first_bench, file_due}
 use Rattle.schedule.specs.Readings.{padded, schedule_from, schedule_of}
-use Rattle.schedule.specs.Prints.{event_line, event_lines, board_lines, printed_from, printed}
+use Rattle.schedule.specs.Prints.{refused_line, printed_from, printed}
+use Rattle.schedule.specs.Private.{report_lines}
 use Rattle.schedule.specs.declared.fault.Fault.{Fault}
 use Rattle.schedule.specs.declared.file.Schedule.{Schedule}
 use Rattle.schedule.proofs.FileLaws.{FileRead, schedule-taken}
-use Rattle.schedule.proofs.PrintLaws.{parts_same}
+use Rattle.schedule.proofs.PrintLaws.{take-written}
 
 -- the marks read the same with 0 after them
 zeros-at : (ms : List ℕ) (m i : ℕ) → get_or (ms ++ replicate m 0) i 0 ≡ get_or ms i 0
@@ -43,6 +44,10 @@ pub file-fault : (bs : List ℕ) (w : Fault) → schedule_of limits bs ≡ Err w
 unfolding schedule_from
 file-fault bs w t = grind (arith, t)
 
+pub print-refused : (bs : List ℕ) (w : Fault) → schedule_of limits bs ≡ Err w → refused_line w ≡ printed limits bs
+unfolding printed_from
+print-refused bs w t = rw (file-fault bs w t) refl
+
 -- A file that was read begins on the fresh bench of its marks, and its events stand at its end.
 module _ (bs : List ℕ) (f : Contents) (r : FileRead bs f) where
   pub begun : fresh_bench limits (length f.marks) (padded limits f.marks) ≡ first_bench limits f
@@ -62,35 +67,36 @@ module _ (bs : List ℕ) (f : Contents) (r : FileRead bs f) where
 
   -- So the player is handed them and no byte more, and the lines of its answers and of its boards are the file's report.
   pub print-played : (buf : List ℕ) → length f.events ≤ length buf →
-      let handed = take (event_bytes * length f.events) (drop (1 + length f.marks + count_bytes) bs) in
-      let marks = padded limits f.marks in
-      event_lines (length f.events) (answers_after limits (length f.marks) marks handed buf)
-      ++ board_lines limits (length f.marks) (played_of limits (length f.marks) marks handed (length buf)).bench
-      ≡ printed limits bs
+      let n = length f.marks in
+      let c = fresh_bench limits n (padded limits f.marks) in
+      let es = events_played (take (event_bytes * length f.events) (drop (1 + n + count_bytes) bs)) (length buf) in
+      let answers = take (length f.events) (written (answers_to limits c es) buf) in
+      report_lines limits n answers (after limits c es) ≡ printed limits bs
   unfolding printed_from
   print-played buf fits =
-      let n = length f.marks in
       let k = length f.events in
-      let c = first_bench limits f in
-      let written = written (answers_to limits c f.events) buf in
-      let answers = answers_to limits c f.events in
-      let bench = played-bench limits n (padded limits f.marks) k r.rest r.size (length buf) fits in
-      let told = played-answers limits n (padded limits f.marks) k r.rest r.size buf fits in
-      let same : event_lines k written ≡ event_lines k answers =
-      parts_same k _ _ (λ j l h. ap (event_line j) (nth-written answers buf j l (omega (arith, length-answers limits c f.events)))) in
       let whole = take_all (event_bytes * k) r.rest (omega (arith, r.size)) in
-      rw (events-part, whole, r.due, told, bench, begun, r.events, same)
+      let played = events-played k (length buf) r.rest r.size fits in
+      let count = length-answers limits (first_bench limits f) f.events in
+      rw (events-part, whole, played, r.events, begun, r.due)
+      (rw (← count, take-written (answers_to limits (first_bench limits f) f.events) buf (omega (arith, count)), count) refl)
 
 -- The same of what the call that reads a file hands back:
 module _ (bs : List ℕ) (s : Schedule) (e : schedule_of limits bs ≡ Ok s) where
   pub start-taken : s.start ≤ length bs
   start-taken = let t = schedule-taken bs s e in rw t.1.1 (start-within bs t.0 t.1.0)
 
+  pub count-taken : s.count ≤ most_events
+  count-taken = let t = schedule-taken bs s e in rw t.1.1 t.1.0.holds.few
+
+  pub boards-taken : s.bus.n ≤ limits.boards
+  boards-taken = let t = schedule-taken bs s e in rw t.1.1 (few-boards bs t.0 t.1.0)
+
   pub print-taken : (buf : List ℕ) → s.count ≤ length buf →
-      let handed = take (event_bytes * s.count) (drop s.start bs) in
-      event_lines s.count (answers_after limits s.bus.n s.bus.marks handed buf)
-      ++ board_lines limits s.bus.n (played_of limits s.bus.n s.bus.marks handed (length buf)).bench
-      ≡ printed limits bs
+      let c = fresh_bench limits s.bus.n s.bus.marks in
+      let es = events_played (take (event_bytes * s.count) (drop s.start bs)) (length buf) in
+      let answers = take s.count (written (answers_to limits c es) buf) in
+      report_lines limits s.bus.n answers (after limits c es) ≡ printed limits bs
   print-taken buf fits = let t = schedule-taken bs s e in rw t.1.1 (print-played bs t.0 t.1.0 buf (rw t.1.1 at fits))
 
-pub ruleset file_played = (start-taken)
+pub ruleset file_played = (start-taken, count-taken, boards-taken)

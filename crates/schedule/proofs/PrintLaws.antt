@@ -18,6 +18,7 @@ use Rattle.std.specs.Prelude.{Ok, Err, decimal, if◌then◌else◌, nat_le}
 use Rattle.std.proofs.lemmas.Bool.{cond-true}
 use Rattle.delivery.specs.Limits.{limits}
 use Rattle.bench.specs.declared.show.Shown.{Shown}
+use Rattle.bench.specs.Runs.{written}
 use Rattle.bench.proofs.RunLaws.{sets-written}
 use Rattle.schedule.specs.Files.{most_events, fault_number}
 use Rattle.schedule.specs.Prints.{
@@ -147,12 +148,6 @@ pub parts_then : {out out' out'' : MutBor (List ℕ)} {at r r' : ℕ} (xs : List
     → Puts (xs ++ parts_to j f) out at out' r → Puts (f k) out' r out'' r' → Puts (xs ++ parts_to k f) out at out'' r'
 parts_then xs f k j e p q = rw (e, parts_more f j, ← append_assoc xs (parts_to j f) (f (j + 1))) (p then rw e at q)
 
--- parts that are alike, one after another, are one text
-pub parts_same : (n : ℕ) (f g : ℕ → List ℕ) → ((k : ℕ) → 1 ≤ k → k ≤ n → f k ≡ g k) → parts_to n f ≡ parts_to n g
-unfolding parts_to
-parts_same zero f g e = refl
-parts_same (suc n) f g e = rw (parts_same n f g (λ k l h. e k l (omega arith)), e (suc n) (omega arith) (omega arith))
-
 -- n parts of one size have n times that size
 pub length-parts : (size n : ℕ) (f : ℕ → List ℕ) → ((k : ℕ) → length (f k) ≡ size) → length (parts_to n f) ≡ n * size
 unfolding parts_to
@@ -208,7 +203,11 @@ pub never-short : (text : List ℕ) (room : ℕ) (r : TooShort) → length text 
 unfolding report_from
 never-short text room r h e = grind (arith, nat_tests)
 
+-- what was written in place of the first is what stands there
+pub take-written : (xs ys : List ℕ) → length xs ≤ length ys → take (length xs) (written xs ys) ≡ xs
+take-written xs ys h =
+    rw (← sets-written xs ys h, sets-eq xs ys 0 (omega arith)) (take-append_seam xs (drop (0 + length xs) ys))
+
 pub text-first : (text buf : List ℕ) → length text ≤ length buf → take (length text) (buffer_from text buf) ≡ text
-text-first text buf h =
-    rw (← buffer-written h (record { place = refl; bytes = refl }), sets-eq text buf 0 (omega arith))
-    (take-append_seam text (drop (0 + length text) buf))
+unfolding buffer_from
+text-first text buf h = rw (cond-true _ _ _ (le-leb (length text) (length buf) h)) (take-written text buf h)

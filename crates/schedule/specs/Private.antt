@@ -3,6 +3,7 @@ use Rattle.std.specs.Prelude.{ℕ, ◌+◌, ◌%◌, ◌≤◌, ◌≡◌, List,
 use denote.Ref.{MutBor}
 use Rattle.std.proofs.lemmas.List.Edits.{sets}
 use Rattle.delivery.specs.Limits.{Limits}
+use Rattle.bench.specs.declared.bench.Bench.{Bench}
 use Rattle.schedule.specs.Files.{most_events}
 use Rattle.schedule.specs.Prints.{event_lines, board_lines, refused_line}
 use Rattle.schedule.specs.declared.fault.Fault.{Fault}
@@ -10,15 +11,15 @@ use Rattle.schedule.specs.declared.report.Report.{Report}
 
 -- What the calls within make of a file that was read and played, or is refused: the lines of it, and that there are no more
 -- of them than there can be.
-abbrev pub report_lines : Limits → Report → List ℕ
-report_lines L r = event_lines r.count r.answers ++ board_lines L r.n r.bench
+abbrev pub report_lines : Limits → ℕ → List ℕ → Bench → List ℕ
+report_lines L n answers c = event_lines (length answers) answers ++ board_lines L n c
 
 abbrev pub report_text : Limits → Result Report Fault → List ℕ
-report_text L (Ok r) = report_lines L r
+report_text L (Ok r) = report_lines L r.n r.answers.now r.bench.now
 report_text L (Err f) = refused_line f
 
 abbrev pub IsWithin : Limits → Report → Type 0
-IsWithin L r = (r.count ≤ most_events) × (r.n ≤ L.boards)
+IsWithin L r = (length r.answers.now ≤ most_events) × (r.n ≤ L.boards)
 
 -- the last digit of a number; none of 0
 unfoldable pub last_digit : ℕ → List ℕ

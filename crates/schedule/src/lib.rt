@@ -15,6 +15,6 @@ pub use bus::Bus;
 pub use claims::{every_file, file_sizes, worked_examples};
 pub use fault::Fault;
 pub use file::Schedule;
-pub use player::play;
+pub use player::{play, play_on};
 pub use report::{Report, TooShort};
 pub use section::Section;

@@ -1,5 +1,6 @@
-ghost use Rattle.std.specs.Prelude.{◌*◌, ◌≤◌, ◌≡◌, length, take, IfOk};
+ghost use Rattle.std.specs.Prelude.{◌*◌, ◌≤◌, ◌≡◌, length, take, Ok, IfOk};
 ghost use Rattle.delivery.specs.Limits.{limits};
+ghost use Rattle.schedule.specs.Readings.{schedule_of};
 ghost use Rattle.schedule.specs.Prints.{printed, report_from, buffer_from, longest_print};
 ghost use Rattle.schedule.specs.Private.{report_lines, report_text, IsWithin, PutAt, Puts};
 ghost use Rattle.schedule.specs.Claims.{Reports};
@@ -11,15 +12,14 @@ use crate::section::Section;
 use crate::text::Text;
 use bench::Bench;
 
-// What a file came to that was read and played: its boards, its events, the answer to each, and the bench after the last.
-// The answers are the first `count`: their memory is fixed, as there is no heap. `n` is the file's: that the bench still has
-// it after the events follows only from the laws of its whole history.
+// What a file came to that was read and played: its boards, the answer to each event, and the bench after the last. The
+// answers and the bench are lent, since they are large, and stand once. `n` is the file's: that the bench still has it after
+// the events follows only from the laws of its whole history.
 #[derive(Drop)]
-pub struct Report {
+pub struct Report<'a> {
     n: u8,
-    count: u16,
-    answers: [u8; Section::MOST_EVENTS as usize],
-    bench: Bench,
+    answers: &'a [u8],
+    bench: &'a Bench,
 }
 
 // There is too little room for a report, and nothing of it is written. It has so many bytes.
@@ -28,7 +28,7 @@ pub struct TooShort {
     pub needed: usize,
 }
 
-impl Report {
+impl Report<'_> {
     // The most bytes of an event's line: four digits, a space, three digits, the line end.
     pub(crate) const EVENT_LINE_BYTES: usize = 9;
 
@@ -39,32 +39,15 @@ impl Report {
     pub const LONGEST: usize = Section::MOST_EVENTS as usize * Report::EVENT_LINE_BYTES
         + Bench::BOARDS as usize * Report::BOARD_LINE_BYTES;
 
-    // Reads a file and plays it.
-    #[tactic(auto, using(crate::proofs::PlayLaws::file_played))]
-    fn of(file: &[u8]) -> Result<Report, Fault>
-        ensures text { report_text limits result ≡ printed limits file.now }
-        ensures within { IfOk result (IsWithin limits) }
-    {
-        let Schedule { bus, count, start } = Schedule::read(file)?;
-        let mut answers = [0; Section::MOST_EVENTS as usize];
-        let played = player::play(bus.n, bus.marks, count, &file[start..], &mut answers);
-        Ok(Report {
-            n: bus.n,
-            count,
-            answers,
-            bench: played.bench,
-        })
-    }
-
     // The lines of the events, and then those of the boards.
     #[tactic(auto, using(crate::proofs::PrintLaws::line_bounds))]
     fn lines(&self, text: &mut Text)
         requires own { IsWithin limits self.now }
         requires start { text.old.length ≡ 0 }
         ensures within { text.new.length ≤ longest_print limits }
-        ensures lines { Puts (report_lines limits self.now) text.old.out 0 text.new.out text.new.length }
+        ensures lines { Puts (report_lines limits self.now.n self.now.answers.now self.now.bench.now) text.old.out 0 text.new.out text.new.length }
     {
-        for (k, answer) in self.answers[..self.count as usize].iter().enumerate() {
+        for (k, answer) in self.answers.iter().enumerate() {
             text.event_line(k as u16 + 1, *answer);
         }
         for k in 1..=self.n {
@@ -105,6 +88,28 @@ impl Report {
         Ok(Report::put(report, out))
     }
 
+    // Plays a file that was read, and writes its text. The bench and the answers stand here and nowhere else: their memory is
+    // fixed, as there is no heap, and a bench is large. The file has the bytes of all its events, so the list is played.
+    #[tactic(auto, using(crate::proofs::PlayLaws::file_played))]
+    fn play(schedule: Schedule, file: &[u8], out: &mut [u8]) -> Result<usize, TooShort>
+        requires { schedule_of limits file.now ≡ Ok schedule }
+        ensures answer { result ≡ report_from (printed limits file.now) (length out.old) }
+        ensures buffer { out.new ≡ buffer_from (printed limits file.now) out.old }
+        ensures within { length (printed limits file.now) ≤ longest_print limits }
+        ensures fits { IfOk result (λ n. n ≤ length out.new) }
+    {
+        let Schedule { bus, count, start } = schedule;
+        let mut made = Bench::fresh(bus.n, bus.marks);
+        let mut answers = [0; Section::MOST_EVENTS as usize];
+        let _ = player::play_on(&mut made.bench, count, &file[start..], &mut answers);
+        let report = Report {
+            n: bus.n,
+            answers: &answers[..count as usize],
+            bench: &made.bench,
+        };
+        Report::fit(&Ok(report), out)
+    }
+
     // Reads a file, plays it, and writes to the start of a buffer what is to be printed of it. The rest of the buffer stays;
     // if it is too short, all of it does. No report is longer than `Report::LONGEST`.
     pub fn write(file: &[u8], out: &mut [u8]) -> Result<usize, TooShort>
@@ -114,8 +119,10 @@ impl Report {
         ensures fits { IfOk result (λ n. n ≤ length out.new) }
         ensures reports { Reports file.now (printed limits file.now) }
     {
-        let report = Report::of(file);
-        Report::fit(&report, out)
+        match Schedule::read(file) {
+            Ok(schedule) => Report::play(schedule, file, out),
+            Err(fault) => Report::fit(&Err(fault), out),
+        }
     }
 
     /// Reads a file, plays it, and writes what is to be printed of it to the start of a buffer that has room for any report, so

@@ -1,10 +1,9 @@
 -- `Report::lines` meets its contract. Assumes nothing.
-use Prim.Native.Nat.{◌+◌, ◌-◌, ◌≤◌, ◌<◌}
+use Prim.Native.Nat.{◌+◌, ◌-◌, ◌≤◌}
 use native.Mathlib.Omega.{arith}
-use mathlib.Core.Path.{◌≡◌, refl, sym, ◌∙◌}
+use mathlib.Core.Path.{◌≡◌, refl}
 use mathlib.Core.List.{[]}
-use Rattle.std.proofs.lemmas.List.{get_or-take, length-take}
-use lib.ListN.{length, take, get_or}
+use lib.ListN.{length, get_or}
 use Rattle.signer.specs.FromOne.{nth}
 use Rattle.signer.proofs.FromOneLaws.{nth_after}
 use Rattle.delivery.specs.Limits.{limits}
@@ -20,21 +19,19 @@ loop-k-init c =
 pub loop-k-preserved : goal.loop-k-preserved
 loop-k-preserved c =
     let k = c.loop-k.k in
-    let run = c.args.self.now in
-    let answer = get_or (take run.count run.answers) k 0 in
-    let there : k < run.count = omega (arith, length-take run.count run.answers) in
+    let played = c.args.self.now in
+    let answer = get_or played.answers.now k 0 in
     let within : length (event_line (k + 1) answer) ≤ event_line_bytes = grind (arith, event-within) in
-    let e : nth run.answers (k + 1) 0 ≡ answer = nth_after run.answers k 0 ∙ sym (get_or-take run.count run.answers k 0 there) in
     record {
       short = omega (arith, within);
-      put = parts_then [] (λ j. event_line j (nth run.answers j 0)) (k + 1) k refl c.loop-k.invariant.put (rw e c.event_line.ensures);
+      put = parts_then [] (λ j. event_line j (nth played.answers.now j 0)) (k + 1) k refl c.loop-k.invariant.put
+          (rw (nth_after played.answers.now k 0) c.event_line.ensures);
     }
 
 pub loop-k-2-init : goal.loop-k-2-init
 loop-k-2-init c =
-    let run = c.args.self.now in
-    let long : run.count ≤ length run.answers = grind arith in
-    let end : c.loop-k.k ≡ run.count = omega (arith, length-take run.count run.answers) in
+    let played = c.args.self.now in
+    let end : c.loop-k.k ≡ length played.answers.now = omega arith in
     record {
       more = omega arith;
       short = omega (arith, end);
@@ -44,14 +41,14 @@ loop-k-2-init c =
 pub loop-k-2-preserved : goal.loop-k-2-preserved
 loop-k-2-preserved c =
     let k = c.loop-k-2.k in
-    let run = c.args.self.now in
+    let played = c.args.self.now in
     let line = c.shown.result in
     let within : length (board_line k line) ≤ board_line_bytes = grind (arith, board-within) in
     let last : k + 1 - 1 ≡ k = omega arith in
     record {
       more = omega arith;
       short = omega (arith, within);
-      put = rw last (parts_then _ (λ j. board_line j (shown limits run.bench j)) k (k - 1) (omega arith) c.loop-k-2.invariant.put (rw c.shown.ensures at c.board_line.ensures));
+      put = rw last (parts_then _ (λ j. board_line j (shown limits played.bench.now j)) k (k - 1) (omega arith) c.loop-k-2.invariant.put (rw c.shown.ensures at c.board_line.ensures));
     }
 
 pub returns-clause-lines : goal.returns-clause-lines
@@ -60,6 +57,6 @@ returns-clause-lines c = let end : c.loop-k-2.k - 1 ≡ c.args.self.now.n = omeg
 pub returns-2-clause-lines : goal.returns-2-clause-lines
 returns-2-clause-lines c =
     let k = c.loop-k-2.k in
-    let run = c.args.self.now in
-    let end : k ≡ run.n = omega arith in
-    rw (← end) (parts_then _ (λ j. board_line j (shown limits run.bench j)) k (k - 1) (omega arith) c.loop-k-2.invariant.put (rw c.shown.ensures at c.board_line.ensures))
+    let played = c.args.self.now in
+    let end : k ≡ played.n = omega arith in
+    rw (← end) (parts_then _ (λ j. board_line j (shown limits played.bench.now j)) k (k - 1) (omega arith) c.loop-k-2.invariant.put (rw c.shown.ensures at c.board_line.ensures))

@@ -2,6 +2,7 @@
 -- them within its most bytes.
 use Prim.Native.Nat.{◌+◌, ◌-◌, ◌*◌, ◌≤◌}
 use mathlib.Core.List.{◌++◌}
+use lib.ListN.{length}
 use Rattle.delivery.specs.Limits.{limits}
 use Rattle.schedule.specs.Files.{most_events}
 use Rattle.schedule.specs.Prints.{event_lines, board_lines, event_line_bytes, board_line_bytes}
@@ -11,12 +12,13 @@ use Rattle.schedule.proofs.report.Report.lines.Given as goal
 abbrev pub invariant-loop-k : goal.invariant-loop-k
 invariant-loop-k l = record {
   short : l.text.length ≤ event_line_bytes * l.k;
-  put : Puts (event_lines l.k l.self.answers) l.fn.text.out 0 l.text.out l.text.length;
+  put : Puts (event_lines l.k l.self.answers.now) l.fn.text.out 0 l.text.out l.text.length;
 }
 
 abbrev pub invariant-loop-k-2 : goal.invariant-loop-k-2
 invariant-loop-k-2 l = record {
   more : l.k ≤ l.self.n + 1;
   short : l.text.length ≤ event_line_bytes * most_events + board_line_bytes * (l.k - 1);
-  put : Puts (event_lines l.self.count l.self.answers ++ board_lines limits (l.k - 1) l.self.bench) l.fn.text.out 0 l.text.out l.text.length;
+  put : Puts (event_lines (length l.self.answers.now) l.self.answers.now ++ board_lines limits (l.k - 1) l.self.bench.now)
+      l.fn.text.out 0 l.text.out l.text.length;
 }
