@@ -18,7 +18,8 @@ pub returns-in-Announce-clause-ok : goal.returns-in-Announce-clause-ok
 unfolding kind_number effect_of
 returns-in-Announce-clause-ok c =
     let d = announced c.args.e.now in
-    grind (arith, c.requires.announcement, c.change-in-Announce.ensures (λ (b : Board). record b { status = Decided d }) (λ b told. search rules))
+    let f = λ (b : Board). record b { status = Decided d } in
+    grind (arith, c.requires.announcement, c.change-in-Announce.ensures f (λ b told. search rules))
 
 pub returns-in-Suspect-clause-ok : goal.returns-in-Suspect-clause-ok
 unfolding kind_number effect_of

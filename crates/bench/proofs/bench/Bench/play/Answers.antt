@@ -34,6 +34,8 @@ unfolding fresh_of answers_after
 returns-clause-agreement c =
     let a = c.args in
     let made = ap (λ (f : Fresh). f.bench) c.fresh-made.ensures in
-    let bench : c.play_on-ending.new.self ≡ bench_after limits a.n a.marks (events_played a.events.now (length a.answers.now)) = grind arith in
-    let answers : c.play_on-ending.new.answers ≡ answers_after limits a.n a.marks a.events.now a.answers.now = grind arith in
+    let es = events_played a.events.now (length a.answers.now) in
+    let bench : c.play_on-ending.new.self ≡ bench_after limits a.n a.marks es = grind arith in
+    let room = a.answers.now in
+    let answers : c.play_on-ending.new.answers ≡ answers_after limits a.n a.marks a.events.now room = grind arith in
     rw (bench, answers) (agrees-played a.n a.marks a.events.now a.answers.now)
