@@ -1,5 +1,5 @@
--- Laws of rows 11 to 21, of an event of a kind that there is: what the table says where one of them applies, and where none
--- does, and what then holds of the board that the event is for. Assumes nothing.
+-- Laws of rows 11 to 21, of an event of a kind that there is: what the table says where one of them applies, and where
+-- none does, and what then holds of the board that the event is for. Assumes nothing.
 use native.Mathlib.Omega.{arith}
 use mathlib.Core.Path.{◌≡◌}
 use mathlib.Core.Bool.{Bool, true, false}

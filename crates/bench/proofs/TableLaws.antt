@@ -23,12 +23,14 @@ kind-known n k h = grind (arith, nat_tests, h)
 pub known-is : (e : Event) (k : Kind) → kind_of e.kind ≡ Ok k → record e { kind = kind_number k } ≡ e
 known-is e k h = ap (λ (n : ℕ). record e { kind = n }) (kind-known e.kind k h)
 
+-- row 10 passes it
 pub kind-passes : (e : Event) (k : Kind) → kind_row (record e { kind = kind_number k }) ≡ false
 unfolding kind_row kind_number
 kind-passes e k = grind (arith, nat_tests, within_in)
 
--- and row 10 stops an event of no kind
-pub kind-stops : (L : Limits) (c : Bench) (e : Event) (r : Refusal) → kind_of e.kind ≡ Err r → check_of L c e ≡ Err r
+-- and stops an event of no kind
+pub kind-stops : (L : Limits) (c : Bench) (e : Event) (r : Refusal) → kind_of e.kind ≡ Err r
+    → check_of L c e ≡ Err r
 unfolding kind_row kind_of check_of first_of
 kind-stops L c e r h = grind (arith, nat_tests, within_low, within-high, h)
 

@@ -8,8 +8,9 @@ use Rattle.vote.specs.declared.statement.Statement.{Statement}
 use Rattle.std.specs.Prelude.{Option, None, Some}
 use Rattle.std.proofs.lemmas.List.{set-get_or}
 use Rattle.signer.specs.Signer.{grants}
-use Rattle.signer.proofs.FromOneLaws.{nth-none, nth-any, nth-index, set_nth-index}
+use Rattle.signer.proofs.FromOneLaws.{within_in, nth-none, nth-any, nth-index, set_nth-index}
 use Rattle.signer.proofs.SignerLaws.{sign-refused}
+use Rattle.delivery.specs.Bus.{is_board}
 use Rattle.delivery.specs.Limits.{Limits}
 use Rattle.vote.specs.Turns.{take, turn}
 use Rattle.vote.specs.declared.board.Board.{Board}
@@ -72,6 +73,9 @@ module _ (L : Limits) (c : Bench) (k : ℕ) (v : (board_at L c k).status ≡ Vot
   unfolding board_at
   voting-at d = let low = voting-low in let high = voting-high in grind (arith, nth-any)
 
+  pub voting-there : length c.boards ≡ L.boards → is_board L k ≡ true
+  voting-there size = let high = voting-high in within_in L.boards k voting-low (omega (arith, size, high))
+
 -- a signer that does not sign leaves the bench as it was
 pub unsigned-same : (L : Limits) (c : Bench) (k i v : ℕ) → 1 ≤ k → grants L.identifiers (signer_at L c k) i ≡ false
     → with_signature L c k i v ≡ c
@@ -79,7 +83,8 @@ unfolding with_signature signer_at
 unsigned-same L c k i v low g = grind (arith, sign-refused, set_nth-index, nth-index, set-get_or, g)
 
 -- nor does a signature change who holds what
-pub signing-holders : (L : Limits) (c : Bench) (k i v s j : ℕ) → holders L (with_signature L c k i v) s j ≡ holders L c s j
+pub signing-holders : (L : Limits) (c : Bench) (k i v s j : ℕ)
+    → holders L (with_signature L c k i v) s j ≡ holders L c s j
 unfolding holders holds board_at with_signature
 signing-holders L c k i v s j = refl
 

@@ -1,5 +1,5 @@
 ghost use Rattle.std.specs.Prelude.{◌≡◌, slice_index};
-ghost use Rattle.bench.specs.Events.{kind_number, kind_of, uses_other, uses_id, uses_value, event_from};
+ghost use Rattle.bench.specs.Events.{kind_number, kind_of, uses_other, event_from};
 
 use crate::answer::Refusal;
 use std::marker::Model;
@@ -105,24 +105,6 @@ impl Kind {
             self,
             Kind::Deliver | Kind::Announce | Kind::Suspect | Kind::Trust
         )
-    }
-
-    // Whether it has an identifier or a round.
-    #[inline(always)]
-    #[tactic(auto, unfolding(crate::specs::Events::kind_number, crate::specs::Events::uses_id))]
-    pub(crate) fn uses_id(self) -> bool
-        ensures { result ≡ uses_id (kind_number self) }
-    {
-        matches!(self, Kind::Deliver | Kind::Announce | Kind::Sign)
-    }
-
-    // Whether it has a value.
-    #[inline(always)]
-    #[tactic(auto, unfolding(crate::specs::Events::kind_number, crate::specs::Events::uses_value, crate::specs::Events::uses_id))]
-    pub(crate) fn uses_value(self) -> bool
-        ensures { result ≡ uses_value (kind_number self) }
-    {
-        self == Kind::Propose || self.uses_id()
     }
 }
 

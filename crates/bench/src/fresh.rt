@@ -49,7 +49,7 @@ impl Bench {
     // Nothing has happened yet on this bench.
     #[inline(always)]
     #[tactic(auto, unfolding(crate::specs::Setups::bench_of))]
-    pub(crate) fn of(n: u8, sound: BoardSet) -> Bench
+    fn of(n: u8, sound: BoardSet) -> Bench
         ensures { result ≡ bench_of limits n sound }
     {
         Bench {
@@ -65,10 +65,7 @@ impl Bench {
     // there is one, which is sound, since a refused call gives a bench (a rule of the project).
     #[inline(always)]
     #[tactic(auto, using(crate::proofs::MakingLaws::bus_size), unfolding(crate::specs::Setups::fresh_answer, crate::specs::Setups::setup_by))]
-    pub(crate) fn setup(
-        n: u8,
-        marks: &[u8; Bench::BOARDS as usize],
-    ) -> (u8, BoardSet, Result<(), SetupFault>)
+    fn setup(n: u8, marks: &[u8; Bench::BOARDS as usize]) -> (u8, BoardSet, Result<(), SetupFault>)
         ensures count { result.0 ≡ (setup limits n marks.now).n }
         ensures sound { result.1 ≡ (setup limits n marks.now).sound }
         ensures answer { result.2 ≡ fresh_answer limits n marks.now }
@@ -86,7 +83,8 @@ impl Bench {
 
     // A fresh bench of n boards; marks are 0 for sound and 1 for faulty, and those after the n-th are not read. The call is
     // made from n and all seven marks (a rule of the project), so these stay two arguments, here and where a list is played.
-    // What it is comes first, so that the bench is made once, in the caller's place.
+    // What it is comes first, so that the bench is made once; inlined, it is made in the caller's place.
+    #[inline(always)]
     #[tactic(auto, unfolding(crate::specs::Setups::fresh_of, crate::specs::Setups::fresh_bench))]
     pub fn fresh(n: u8, marks: [u8; Bench::BOARDS as usize]) -> Fresh
         ensures { result ≡ fresh_of limits n marks }

@@ -72,7 +72,7 @@ impl Bench {
     // Makes a fresh bench and plays a list of events into it, the bytes of each as they stand in a schedule. Each
     // answer's number is written to its place in `answers`, and the rest of `answers` stays. A list that cannot be
     // played leaves the bench fresh and `answers` as it was.
-    #[tactic(auto, unfolding(crate::specs::Runs::played_of, crate::specs::Runs::answers_after, crate::specs::Setups::fresh_bench))]
+    #[tactic(auto, unfolding(crate::specs::Runs::played_of, crate::specs::Runs::answers_after, crate::specs::Setups::fresh_of))]
     pub fn play(
         n: u8,
         marks: [u8; Bench::BOARDS as usize],
@@ -83,13 +83,12 @@ impl Bench {
         ensures answers { answers.new ≡ answers_after limits n marks events.now answers.old }
         ensures agreement { Agreement limits n marks (played_history events.now answers.new) result.bench }
     {
-        let (count, sound, answer) = Bench::setup(n, &marks);
-        let mut played = Played {
-            bench: Bench::of(count, sound),
-            answer,
-            ending: Ok(()),
-        };
-        played.ending = played.bench.play_on(events, answers);
-        played
+        let mut made = Bench::fresh(n, marks);
+        let ending = made.bench.play_on(events, answers);
+        Played {
+            bench: made.bench,
+            answer: made.answer,
+            ending,
+        }
     }
 }

@@ -48,7 +48,8 @@ impl Known {
     {
         match self.kind {
             Kind::Propose | Kind::Announce => self.value == Log::BLANK,
-            _ => !self.kind.uses_value() && self.value != 0,
+            Kind::Deliver | Kind::Sign => false,
+            _ => self.value != 0,
         }
     }
 

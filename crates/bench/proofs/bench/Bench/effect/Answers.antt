@@ -2,6 +2,7 @@
 use native.Mathlib.Omega.{arith}
 use borrow.Author.Rules.{rules}
 use Rattle.vote.specs.Boards.{with_status, propose, suspect, trust}
+use Rattle.vote.specs.declared.board.Board.{Board}
 use Rattle.vote.specs.declared.board.Status.TheVariants.{Decided}
 use Rattle.bench.specs.Events.{kind_number}
 use Rattle.bench.specs.Effects.{effect_of}
@@ -17,7 +18,8 @@ pub returns-in-Announce-clause-ok : goal.returns-in-Announce-clause-ok
 unfolding kind_number effect_of
 returns-in-Announce-clause-ok c =
     let d = announced c.args.e.now in
-    grind (arith, c.requires.announcement, c.change-in-Announce.ensures (λ b. with_status b (Decided d)) (λ b told. search rules))
+    let f = λ (b : Board). with_status b (Decided d) in
+    grind (arith, c.requires.announcement, c.change-in-Announce.ensures f (λ b told. search rules))
 
 pub returns-in-Suspect-clause-ok : goal.returns-in-Suspect-clause-ok
 unfolding kind_number effect_of

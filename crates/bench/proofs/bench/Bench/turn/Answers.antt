@@ -4,13 +4,12 @@ use borrow.Author.Rules.{rules}
 use mathlib.Core.Path.{◌≡◌}
 use mathlib.Core.Bool.{false}
 use lib.ListN.{length}
-use Rattle.signer.proofs.FromOneLaws.{within_in}
 use Rattle.delivery.specs.Limits.{limits}
 use Rattle.vote.specs.Turns.{take}
 use Rattle.bench.specs.Benches.{signer_at, move_at, said_at}
 use Rattle.bench.specs.Table.{refuses}
 use Rattle.bench.specs.Effects.{after_saying, with_owed, with_signature}
-use Rattle.bench.proofs.TurnLaws.{wait-waits, wait-refuses, wait-neither, saying-board, signing-holders, turn-made, voting-low, voting-high, voting-at, unsigned-same}
+use Rattle.bench.proofs.TurnLaws.{wait-waits, wait-refuses, wait-neither, saying-board, signing-holders, turn-made, voting-low, voting-at, voting-there, unsigned-same}
 use Rattle.bench.proofs.bench.Bench.turn.Goals as goal
 use Rattle.bench.proofs.bench.Bench.turn.Goals.{in-Some+else-not-sign, in_default}
 
@@ -28,7 +27,7 @@ returns-then-not-sign-clause-answer c =
     let k = c.args.k in
     let at = voting-at limits s k c.requires in
     let size : length s.boards ≡ limits.boards = search rules in
-    let there = within_in limits.boards k (voting-low limits s k c.requires) (omega (arith, size, voting-high limits s k c.requires)) in
+    let there = voting-there limits s k c.requires size in
     let said : c.said-said.result ≡ said_at limits s k = grind (arith, at) in
     grind (arith, said, there, c.sign.ensures.signed, wait-refuses limits s k c.requires)
 
@@ -38,7 +37,7 @@ returns-then-not-sign-clause-err c =
     let k = c.args.k in
     let low = voting-low limits s k c.requires in
     let size : length s.boards ≡ limits.boards = search rules in
-    let there = within_in limits.boards k low (omega (arith, size, voting-high limits s k c.requires)) in
+    let there = voting-there limits s k c.requires size in
     grind (arith, low, there, unsigned-same, c.sign.ensures)
 
 pub returns-clause-answer : goal.returns-clause-answer
@@ -66,7 +65,10 @@ returns-clause-ok c =
     let told : c.said-said.result ≡ said_at limits s k = grind (arith, at) in
     let said : c.match-said.self ≡ after_saying limits s k (said_at limits s k) =
     elim c.match-said.branch [
-      | in-Some+else-not-sign w ↦ grind (arith, told, w.sign.ensures.bench, w.in-Some.is, w.self-is, w.holders-have.ensures, w.record_signing.ensures, signing-holders)
+      | in-Some+else-not-sign w ↦
+          (let owed = w.record_signing.ensures in
+          let have = w.holders-have.ensures in
+          grind (arith, told, w.sign.ensures.bench, w.in-Some.is, w.self-is, have, owed, signing-holders))
       | in_default w ↦ grind (arith, told, w.self-is)
     ] in
     let made = c.change.ensures (λ b. (take limits k b c.next_move-step.result).board) (λ b told. search rules) in
