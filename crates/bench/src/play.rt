@@ -41,8 +41,9 @@ fn ending_of(bytes: usize, room: usize) -> Result<(), Unplayed>
 }
 
 impl Bench {
-    // Plays the events of a list, and writes their answers; bytes that are no whole event are not read.
-    #[inline(always)]
+    // Plays the events of a list, and writes their answers; bytes that are no whole event are not read. It stays by itself, so
+    // that the step is compiled into this one loop.
+    #[inline(never)]
     #[tactic(auto, using(crate::proofs::RunLaws::run_lengths), unfolding(crate::specs::Runs::after, crate::specs::Runs::answers_to, crate::specs::Runs::steps, crate::specs::Runs::last_of, crate::specs::Runs::events_in))]
     fn run(&mut self, events: &[u8], answers: &mut [u8])
         requires { length events.now / event_bytes ≤ length answers.old }
