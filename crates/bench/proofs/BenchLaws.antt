@@ -4,9 +4,9 @@ use Prim.Native.Nat.{ℕ, ◌+◌, ◌-◌, ◌<◌}
 use mathlib.Core.Path.{◌≡◌, refl, ap, ◌∙◌}
 use lib.ListN.{length, get_or}
 use native.Mathlib.Omega.{arith}
-use Rattle.signer.proofs.FromOneLaws.{nth-any, set_nth-index, set_nth-none, within_low, within-high, within-out, nth-replicate}
 use Rattle.signer.specs.Log.{entry_at}
-use Rattle.signer.proofs.SignerLaws.{sign-answer}
+use Rattle.signer.proofs.FromOneLaws.{get_some, get_none, nth-any, set_nth-index, set_nth-none, within_low, within-high, within-out, nth-replicate}
+use Rattle.signer.proofs.SignerLaws.{sign-answer, fresh-entry, fresh-last}
 use Rattle.signer.specs.Signer.{fresh_signer}
 use Rattle.delivery.specs.Limits.{Limits}
 use Rattle.delivery.specs.Delivered.{heard}
@@ -21,6 +21,9 @@ pub ruleset places = (set_nth-none, set_nth-index, nth-any, within-high, within_
 
 -- and a signer that is asked says whether it granted what it was asked for
 pub ruleset asked = (set_nth-none, set_nth-index, nth-any, within-high, within_low, within-out, sign-answer)
+
+-- a signer that is lent, and what would be read of a fresh one
+pub ruleset chips = (get_some, get_none, fresh-entry, fresh-last)
 
 -- whether the board at index k has delivered a statement
 pub holds-at : (L : Limits) (c : Bench) (s i k : ℕ) (d : Board) → k < length c.boards

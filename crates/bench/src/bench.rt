@@ -42,7 +42,7 @@ impl Bench {
         from_one::nth(&self.boards, k, Board::fresh())
     }
 
-    // Board k's signer; a fresh one where the number is no board's. What is read of a signer within asks it where it stands.
+    // Board k's signer; a fresh one where the number is no board's. What is read of a signer below is read where it stands.
     #[tactic(auto, unfolding(crate::specs::Benches::signer_at))]
     pub fn signer(&self, k: u8) -> Signer
         ensures { result ≡ signer_at limits self.now k }
@@ -73,19 +73,6 @@ impl Bench {
         question(&Board::fresh())
     }
 
-    // Asks board k's signer in the same way.
-    #[inline(always)]
-    #[tactic(auto, using(signer::proofs::FromOneLaws::get_some, signer::proofs::FromOneLaws::get_none), unfolding(crate::specs::Benches::signer_at))]
-    pub(crate) fn ask_signer<R, F: FnOnce(&Signer) -> R>(&self, k: u8, question: F) -> R
-        requires { F.IsAlwaysCallable question }
-        ensures { FnOnceReturnsAt F.FnOnce question (signer_at limits self.now k) result }
-    {
-        match from_one::get(&self.signers, k) {
-            Some(signer) => question(signer),
-            None => question(&Signer::fresh()),
-        }
-    }
-
     // What board k has delivered from a speaker under an identifier, as a log's entry; these two stay apart here and below, as
     // in `Delivered`.
     #[inline(always)]
@@ -97,11 +84,26 @@ impl Bench {
 
     // What board k's signer has signed under an identifier, as a log's entry.
     #[inline(always)]
-    #[tactic(auto, unfolding(crate::specs::Benches::signed_by))]
+    #[tactic(auto, using(crate::proofs::BenchLaws::chips), unfolding(crate::specs::Benches::signed_by, crate::specs::Benches::signer_at))]
     pub fn signed(&self, k: u8, id: Identifier) -> u32
         ensures { result ≡ signed_by limits self.now k id.0 }
     {
-        self.ask_signer(k, |signer| signer.entry(id))
+        match from_one::get(&self.signers, k) {
+            Some(signer) => signer.entry(id),
+            None => 0,
+        }
+    }
+
+    // The last identifier that board k's signer has signed under; 0 where it has under none.
+    #[inline(always)]
+    #[tactic(auto, using(crate::proofs::BenchLaws::chips), unfolding(crate::specs::Benches::signer_at))]
+    pub(crate) fn last(&self, k: u8) -> Identifier
+        ensures { result.0 ≡ (signer_at limits self.now k).last.0 }
+    {
+        match from_one::get(&self.signers, k) {
+            Some(signer) => signer.last,
+            None => Identifier(0),
+        }
     }
 
     // The boards to which a copy of a speaker's statement is owed.

@@ -138,7 +138,7 @@ impl Bench {
     fn last_row(&self, e: &Known) -> bool
         ensures { result ≡ last_row limits self.now e.now }
     {
-        e.kind == Kind::Sign && self.ask_signer(e.a, |signer| Identifier(e.id) <= signer.last)
+        e.kind == Kind::Sign && Identifier(e.id) <= self.last(e.a)
     }
 
     // Row 19: a has delivered b's statement under this identifier.
