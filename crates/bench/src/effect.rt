@@ -142,6 +142,7 @@ impl Bench {
     }
 
     // One event, by value, as document 01 names it; what is played within goes by `step`.
+    #[inline(always)]
     pub fn event(mut self, e: Event) -> Outcome
         ensures { result ≡ step_of limits self e }
     {
@@ -154,6 +155,7 @@ impl Bench {
 
     // One event, on a bench that is lent: the answer is returned, and the bench left as it is afterwards. It forwards to
     // `event`, as document 01 has it.
+    #[inline(never)]
     pub fn apply(&mut self, e: Event) -> Result<(), Refusal>
         ensures { (result ≡ (step_of limits self.old e).answer) × (self.new ≡ (step_of limits self.old e).bench) }
     {
