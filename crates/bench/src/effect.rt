@@ -96,10 +96,7 @@ impl Bench {
             Kind::Propose => self.change(e.a, |board| board.propose(e.value)),
             Kind::Turn => self.turn(e.a)?,
             Kind::Deliver => self.hear(e.a, e.brought()),
-            Kind::Announce => self.change(
-                e.a,
-                |board| board.decide(e.announced()),
-            ),
+            Kind::Announce => self.change(e.a, |board| board.decide(e.announced())),
             Kind::Suspect => self.change(e.a, |board| board.suspect(e.b)),
             Kind::Trust => self.change(e.a, |board| board.trust(e.b)),
             Kind::Sign => {
