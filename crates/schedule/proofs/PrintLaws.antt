@@ -14,7 +14,7 @@ use Rattle.std.proofs.lemmas.Bool.Decides.{nat_tests}
 use Rattle.std.proofs.lemmas.Fmt.{decimal_digit, decimal_step, length-decimal-le}
 use Rattle.std.proofs.lemmas.List.{take_more}
 use lib.Seq.{sets, length-sets, sets-eq, take-append_seam, take-add}
-use Rattle.std.specs.Prelude.{Ok, Err, decimal, if◌then◌else◌, nat_le}
+use Rattle.std.specs.Prelude.{Ok, Err, decimal, if◌then◌else◌, nat_le, nat_lt}
 use Rattle.std.proofs.lemmas.Bool.{cond-true}
 use Rattle.delivery.specs.Limits.{limits}
 use Rattle.bench.specs.declared.show.Shown.{Shown}
@@ -32,7 +32,7 @@ use Rattle.schedule.specs.Prints.{
   board_line_bytes,
   longest_print,
 }
-use Rattle.schedule.specs.Private.{last_digit, PutAt, Puts}
+use Rattle.schedule.specs.Private.{last_digit, digit_if, number_of, AreDigits, PutAt, Puts}
 use Rattle.schedule.specs.declared.fault.Fault.{Fault}
 use Rattle.schedule.specs.declared.report.TooShort.{TooShort}
 use Rattle.schedule.proofs.FaultLaws.{fault-row}
@@ -107,6 +107,38 @@ pub length-digits : (m : ℕ) → Fits w16 m → length (decimal m)
 length-digits m f = rw (number-digits m f) (simp length-append (omega arith))
 
 pub ruleset number_digits = (length-digits)
+
+-- Where the digits stand there, one is shown if it or one before it is not 0, as their sum up to it tells: that is 0 only
+-- where the number that they write up to it is.
+digit-shown : (m shown digit : ℕ) → m % 10 ≡ digit → shown ≤ m → m ≤ 100 * shown → last_digit m ≡ digit_if (nat_lt 0 shown) digit
+unfolding last_digit digit_if
+digit-shown m shown digit e few many = grind (arith, nat_tests)
+
+pub counter-digits : (t h e o : ℕ) → AreDigits t h e o → decimal (number_of t h e o)
+    ≡ ((digit_if (nat_lt 0 t) t ++ digit_if (nat_lt 0 (t + h)) h) ++ digit_if (nat_lt 0 (t + h + e)) e) ++ (48 + o) ∷ []
+unfolding front
+counter-digits t h e o d =
+    let m = number_of t h e o in
+    let one : m % 10 ≡ o = omega (arith, d) in
+    let tens : m / 10 ≡ 100 * t + 10 * h + e = omega (arith, d) in
+    rw (
+      front-last m (omega (arith, d)),
+      one,
+      tens,
+      front-more (100 * t + 10 * h + e) (10 * t + h) (omega (arith, d)) (omega (arith, d)),
+      front-more (10 * t + h) t (omega (arith, d)) (omega (arith, d)),
+      front-more t 0 (omega (arith, d)) (omega (arith, d)),
+      digit-shown (100 * t + 10 * h + e) (t + h + e) e (omega (arith, d)) (omega arith) (omega arith),
+      digit-shown (10 * t + h) (t + h) h (omega (arith, d)) (omega arith) (omega arith),
+      digit-shown t t t (omega (arith, d)) (omega arith) (omega arith),
+    )
+    refl
+
+pub length-counter : (t h e o : ℕ) → AreDigits t h e o → length (decimal (number_of t h e o))
+    ≡ length (digit_if (nat_lt 0 t) t) + length (digit_if (nat_lt 0 (t + h)) h) + length (digit_if (nat_lt 0 (t + h + e)) e) + 1
+length-counter t h e o d = rw (counter-digits t h e o d) (simp length-append (omega arith))
+
+pub ruleset counter_digits = (length-counter)
 
 -- a line is within its most bytes, since a number below a power of ten has at most as many digits as the power has zeros
 pub event-within : (k a : ℕ) → k ≤ most_events → Fits w8 a → length (event_line k a) ≤ event_line_bytes

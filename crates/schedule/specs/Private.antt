@@ -1,5 +1,5 @@
 -- What private calls alone promise by; whoever believes the open calls need not read it.
-use Rattle.std.specs.Prelude.{ℕ, ◌+◌, ◌%◌, ◌≤◌, ◌≡◌, List, [], ◌∷◌, ◌++◌, length, Result, Ok, Err, if◌then◌else◌, nat_le}
+use Rattle.std.specs.Prelude.{ℕ, Bool, ◌+◌, ◌*◌, ◌%◌, ◌≤◌, ◌≡◌, List, [], ◌∷◌, ◌++◌, length, Result, Ok, Err, if◌then◌else◌, nat_le}
 use denote.Ref.{MutBor}
 use Rattle.std.proofs.lemmas.List.Edits.{sets}
 use Rattle.delivery.specs.Limits.{Limits}
@@ -24,6 +24,17 @@ IsWithin L r = (length r.answers.now ≤ most_events) × (r.n ≤ L.boards)
 -- the last digit of a number; none of 0
 unfoldable pub last_digit : ℕ → List ℕ
 last_digit m = if nat_le 1 m then (48 + m % 10) ∷ [] else []
+
+-- a digit in ASCII, if it is one to be shown
+unfoldable pub digit_if : Bool → ℕ → List ℕ
+digit_if shown d = if shown then (48 + d) ∷ [] else []
+
+-- the number of four digits, each of which is at most 9
+abbrev pub number_of : ℕ → ℕ → ℕ → ℕ → ℕ
+number_of t h e o = 1000 * t + 100 * h + 10 * e + o
+
+abbrev pub AreDigits : ℕ → ℕ → ℕ → ℕ → Type 0
+AreDigits t h e o = (t ≤ 9) × (h ≤ 9) × (e ≤ 9) × (o ≤ 9)
 
 -- What the calls within that write a part of it promise: the text stands in the buffer from a place on, as far as the
 -- buffer goes, and the place after it is told.

@@ -4,6 +4,7 @@
 
 mod bus;
 mod claims;
+mod counter;
 mod fault;
 mod file;
 mod player;

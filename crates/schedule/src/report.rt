@@ -5,6 +5,7 @@ ghost use Rattle.schedule.specs.Prints.{printed, report_from, buffer_from, longe
 ghost use Rattle.schedule.specs.Private.{report_lines, report_text, IsWithin, PutAt, Puts};
 ghost use Rattle.schedule.specs.Claims.{Reports};
 
+use crate::counter::Counter;
 use crate::fault::Fault;
 use crate::file::Schedule;
 use crate::player;
@@ -47,8 +48,10 @@ impl Report<'_> {
         ensures within { text.new.length ≤ longest_print limits }
         ensures lines { Puts (report_lines limits self.now.n self.now.answers.now self.now.bench.now) text.old.out 0 text.new.out text.new.length }
     {
-        for (k, answer) in self.answers.iter().enumerate() {
-            text.event_line(k as u16 + 1, *answer);
+        let mut number = Counter::zero();
+        for answer in self.answers {
+            number.next();
+            text.event_line(&number, *answer);
         }
         for k in 1..=self.n {
             text.board_line(k, self.bench.shown(k));

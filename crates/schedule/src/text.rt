@@ -1,8 +1,9 @@
 ghost use Rattle.std.specs.Prelude.{◌+◌, ◌/◌, ◌≤◌, ◌≡◌, [], ◌∷◌, length, decimal};
 ghost use Rattle.delivery.specs.Limits.{limits};
 ghost use Rattle.schedule.specs.Prints.{event_line, board_line, refused_line, longest_print};
-ghost use Rattle.schedule.specs.Private.{last_digit, Puts};
+ghost use Rattle.schedule.specs.Private.{last_digit, digit_if, Puts};
 
+use crate::counter::Counter;
 use crate::fault::Fault;
 use bench::Shown;
 use vote::Numbered;
@@ -62,6 +63,35 @@ impl Text<'_> {
         self.put(b'0' + (m - 10 * tens) as u8);
     }
 
+    // A digit, if it is one to be shown.
+    #[inline(always)]
+    #[tactic(auto, unfolding(crate::specs::Private::digit_if))]
+    fn digit_if(&mut self, shown: bool, digit: u8)
+        requires small { digit ≤ 9 }
+        requires room { self.old.length + length (digit_if shown digit) ≤ longest_print limits }
+        ensures { Puts (digit_if shown digit) self.old.out self.old.length self.new.out self.new.length }
+    {
+        if shown {
+            self.put(b'0' + digit);
+        }
+    }
+
+    // A counter's number in decimal, with no division, since its digits are there. A digit is shown if it or one before it
+    // is not 0.
+    #[inline(always)]
+    #[tactic(auto, using(crate::proofs::PrintLaws::counter_digits))]
+    fn counted(&mut self, counter: &Counter)
+        requires { self.old.length + length (decimal counter.now) ≤ longest_print limits }
+        ensures { Puts (decimal counter.now) self.old.out self.old.length self.new.out self.new.length }
+    {
+        let hundreds = counter.thousands + counter.hundreds;
+        let tens = hundreds + counter.tens;
+        self.digit_if(counter.thousands > 0, counter.thousands);
+        self.digit_if(hundreds > 0, counter.hundreds);
+        self.digit_if(tens > 0, counter.tens);
+        self.put(b'0' + counter.ones);
+    }
+
     // A text as it stands.
     pub(crate) fn word(&mut self, text: &[u8])
         requires { self.old.length + length text.now ≤ longest_print limits }
@@ -72,13 +102,13 @@ impl Text<'_> {
         }
     }
 
-    // An event's line.
+    // An event's line, with its number.
     #[tactic(auto, unfolding(crate::specs::Prints::event_line))]
-    pub(crate) fn event_line(&mut self, k: u16, answer: u8)
-        requires { self.old.length + length (event_line k answer) ≤ longest_print limits }
-        ensures { Puts (event_line k answer) self.old.out self.old.length self.new.out self.new.length }
+    pub(crate) fn event_line(&mut self, k: &Counter, answer: u8)
+        requires { self.old.length + length (event_line k.now answer) ≤ longest_print limits }
+        ensures { Puts (event_line k.now answer) self.old.out self.old.length self.new.out self.new.length }
     {
-        self.number(k);
+        self.counted(k);
         self.put(b' ');
         self.number(answer as u16);
         self.put(b'\n');

@@ -5,4 +5,4 @@ use Rattle.schedule.proofs.text.Text.event_line.Goals as goal
 
 pub returns : goal.returns
 unfolding event_line
-returns c = c.number.ensures then c.put.ensures then c.number-2.ensures then c.put-2.ensures
+returns c = c.counted.ensures then c.put.ensures then c.number.ensures then c.put-2.ensures
