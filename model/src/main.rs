@@ -1,4 +1,4 @@
-//! The command line: plays, makes, compares, checks and times schedules.
+//! The command line: plays, makes, compares, checks and times schedules, and measures stack.
 
 mod arguments;
 

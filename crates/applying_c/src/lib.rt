@@ -25,8 +25,8 @@ fn play(bench: &mut Bench, count: usize, events: &[u8], answers: &mut [u8])
     }
 }
 
-// Writes the numbers of the answers to a file's events to the start of a buffer, and returns how many they are; a file that
-// is refused has none. The rest of the buffer stays; if it is too short, all of it does.
+/// Writes the numbers of the answers to a file's events to the start of a buffer, and returns how many they are; a file that
+/// is refused has none. The rest of the buffer stays; if it is too short, all of it does.
 #[unsafe(no_mangle)]
 #[tactic(auto, using(crate::proofs::AnsweredLaws::file_answered))]
 pub extern "C" fn fenderacai_apply(file: &[u8], out: &mut [u8]) -> usize

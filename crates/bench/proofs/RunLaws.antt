@@ -8,14 +8,11 @@ use mathlib.Core.List.{List, [], ◌∷◌, ◌++◌}
 use lib.ListN.{length, drop, length-append, length-drop, get_or-append}
 use lib.Seq.{sets, sets-eq, drop-drop}
 use Rattle.std.proofs.lemmas.Bool.Decides.{nat_tests}
-use Rattle.signer.specs.FromOne.{nth}
-use Rattle.signer.proofs.FromOneLaws.{nth-index}
 use Rattle.delivery.specs.Limits.{Limits}
 use Rattle.bench.specs.Events.{high_first, event_bytes, event_from}
-use Rattle.bench.specs.Setups.{fresh_bench}
 use Rattle.bench.specs.Answers.{answer_number}
 use Rattle.bench.specs.Effects.{step_of}
-use Rattle.bench.specs.Runs.{steps, last_of, after, answers_to, events_in, ending_of, played_by, events_played, written, played_of, answers_after}
+use Rattle.bench.specs.Runs.{steps, last_of, after, answers_to, events_in, ending_of, played_by, events_played, written}
 use Rattle.bench.specs.Story.{history_of}
 use Rattle.bench.specs.declared.bench.Bench.{Bench}
 use Rattle.bench.specs.declared.event.Event.{Event}
@@ -112,23 +109,6 @@ pub events-played : (k room : ℕ) (bs : List ℕ) → length bs ≡ event_bytes
     → events_played bs room ≡ events_in k bs
 unfolding ending_of played_by
 events-played k room bs e h = let count : length bs / event_bytes ≡ k = omega arith in grind (arith, nat_tests, count)
-
--- so playing them gives the bench after them, and their answers are written
-module _ (L : Limits) (n : ℕ) (marks : List ℕ) (k : ℕ) (bs : List ℕ) (e : length bs ≡ event_bytes * k) where
-  pub played-bench : (room : ℕ) → k ≤ room
-      → (played_of L n marks bs room).bench ≡ after L (fresh_bench L n marks) (events_in k bs)
-  unfolding played_of
-  played-bench room h = rw (events-played k room bs e h)
-
-  pub played-answers : (buf : List ℕ) → k ≤ length buf
-      → answers_after L n marks bs buf ≡ written (answers_to L (fresh_bench L n marks) (events_in k bs)) buf
-  unfolding answers_after
-  played-answers buf h = rw (events-played k (length buf) bs e h)
-
--- and what is written can be read
-pub nth-written : (xs ys : List ℕ) (k : ℕ) → 1 ≤ k → k ≤ length xs → nth (written xs ys) k 0 ≡ nth xs k 0
-unfolding written
-nth-written xs ys k l h = grind (arith, nth-index, get_or-append)
 
 -- a history looks at no more of the buffer than the answers
 history-append : (L : Limits) (c : Bench) (es : List Event) (ys : List ℕ)

@@ -14,7 +14,7 @@ use crate::bench::Bench;
 use crate::event::{Event, Kind, Known};
 use delivery::{Delivered, Round};
 use signer::Identifier;
-use vote::{Board, Decision, Statement, Status};
+use vote::{Board, Decision, Statement};
 
 // What comes of an event: the bench afterwards, and the answer. It is no `Result` of a bench, since a refused event leaves
 // one too.
@@ -119,14 +119,14 @@ impl Bench {
     }
 
     /// One event, in place: its answer is handed back, and the bench is changed if it is accepted. A refused one leaves the bench
-    /// as it is. Whoever keeps a bench in its place goes by this; nothing is copied. Each kind is handed on by its name, so that
-    /// no row about other kinds is looked at.
+    /// as it is. Whoever keeps a bench in its place goes by this; nothing is copied.
     #[inline(always)]
     #[tactic(auto, using(crate::proofs::TableLaws::told_kinds), unfolding(crate::specs::Effects::step_of, crate::specs::Answers::is_accepted))]
     pub fn step(&mut self, e: Event) -> Result<(), Refusal>
         ensures answer { result ≡ (step_of limits self.old e).answer }
         ensures bench { self.new ≡ (step_of limits self.old e).bench }
     {
+        // each by its name, so that no row about other kinds is looked at
         match Kind::try_from(e.kind)? {
             Kind::Propose => self.take(Kind::Propose, e),
             Kind::Turn => self.take(Kind::Turn, e),
@@ -138,7 +138,8 @@ impl Bench {
         }
     }
 
-    // One event, by value, as document 01 names it; what is played within goes by `step`.
+    /// One event, on a bench by value: the bench afterwards, and the answer. It copies the bench; what is played within goes by
+    /// `step`.
     #[inline(always)]
     pub fn event(mut self, e: Event) -> Outcome
         ensures { result ≡ step_of limits self e }
@@ -150,8 +151,8 @@ impl Bench {
         }
     }
 
-    // One event, on a bench that is lent: the answer is returned, and the bench left as it is afterwards. It forwards to
-    // `event`, as document 01 has it.
+    /// One event, on a bench that is lent: the answer is returned, and the bench left as it is afterwards. It forwards to
+    /// `event`, so it copies the bench in and out; `step` does not.
     #[inline(never)]
     pub fn apply(&mut self, e: Event) -> Result<(), Refusal>
         ensures { (result ≡ (step_of limits self.old e).answer) × (self.new ≡ (step_of limits self.old e).bench) }

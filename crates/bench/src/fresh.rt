@@ -83,7 +83,7 @@ impl Bench {
 
     // A fresh bench of n boards; marks are 0 for sound and 1 for faulty, and those after the n-th are not read. The call is
     // made from n and all seven marks (a rule of the project), so these stay two arguments, here and where a list is played.
-    // What it is comes first, so that the bench is made once; inlined, it is made in the caller's place.
+    // How many boards there are and which are sound comes first, so that the bench is made once; inlined, in the caller's place.
     #[inline(always)]
     #[tactic(auto, unfolding(crate::specs::Setups::fresh_of, crate::specs::Setups::fresh_bench))]
     pub fn fresh(n: u8, marks: [u8; Bench::BOARDS as usize]) -> Fresh

@@ -58,6 +58,7 @@ impl Bench {
 
     /// Plays a list of events on this bench, the bytes of each as they stand in a schedule, and writes each answer's number to its
     /// place in `answers`; the rest of `answers` stays. A list that cannot be played leaves the bench and `answers` as they were.
+    /// The bench may be any: agreement is promised by `play`, of a fresh one.
     #[inline(always)]
     #[tactic(auto, unfolding(crate::specs::Runs::ending_of, crate::specs::Runs::played_by, crate::specs::Runs::after, crate::specs::Runs::answers_to, crate::specs::Runs::written, crate::specs::Runs::steps, crate::specs::Runs::last_of))]
     pub fn play_on(&mut self, events: &[u8], answers: &mut [u8]) -> Result<(), Unplayed>
@@ -70,9 +71,9 @@ impl Bench {
         Ok(())
     }
 
-    // Makes a fresh bench and plays a list of events into it, the bytes of each as they stand in a schedule. Each
-    // answer's number is written to its place in `answers`, and the rest of `answers` stays. A list that cannot be
-    // played leaves the bench fresh and `answers` as it was.
+    /// Makes a fresh bench and plays a list of events into it, the bytes of each as they stand in a schedule. Each
+    /// answer's number is written to its place in `answers`, and the rest of `answers` stays. A list that cannot be
+    /// played leaves the bench fresh and `answers` as it was.
     #[tactic(auto, unfolding(crate::specs::Runs::played_of, crate::specs::Runs::answers_after, crate::specs::Setups::fresh_of))]
     pub fn play(
         n: u8,

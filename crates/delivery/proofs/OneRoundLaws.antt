@@ -3,7 +3,7 @@
 use Prim.Native.Nat.{ℕ, ◌+◌, ◌-◌, ◌≤◌, ◌<◌, min}
 use native.Mathlib.Omega.{arith}
 use native.Mathlib.Decide.{dec_le}
-use mathlib.Core.Path.{◌≡◌, refl, sym, ◌∙◌}
+use mathlib.Core.Path.{◌≡◌, sym, ◌∙◌}
 use mathlib.Core.Bool.{Bool, true}
 use mathlib.Core.Logic.{◌⊎◌, inl, inr, ⊎_elim}
 use mathlib.Core.List.{List}
@@ -20,11 +20,6 @@ use Rattle.delivery.specs.Acceptance.{says, bears, backs, divided, counts, count
 use Rattle.delivery.proofs.CountLaws.{count-le, count-cong, count-mono, count-or, find, every-reads, reads-every, overlap-pos}
 use Rattle.delivery.proofs.ChoiceLaws.{picked, picked-some, some-picked, length-picked, count-picked, every-picked, first, count-first, count-apart}
 use Rattle.delivery.proofs.AllRoundsLaws.{allowed-next, allowed-blank, opened-allowed, opened-entry, accepted-reads, reads-accepted}
-
--- a ballot backs the entry of w exactly if it bears w
-pub backs-value : (L : Limits) (h : Store) (r w s : ℕ) → backs L h r (entry_of w) s ≡ bears L h r w s
-unfolding backs says
-backs-value L h r w s = refl
 
 -- w is allowed next, where the entry of the opening that counts is x, b ballots are blank and c bear its value; m says
 -- whether w is allowed in this round

@@ -44,7 +44,7 @@ impl Allowance {
         0
     }
 
-    // What is allowed after a round of n boards with so many blank ballots and so many for the opening's value.
+    // What is allowed after a round of n boards with so many blank ballots and so many for the value of the opening that counts.
     pub(crate) fn settled(self, n: u8, opening: u32, blank: u8, backing: u8) -> Allowance
         ensures { result ≡ (if nat_le (quorum n) (blank + min backing (overlap n - 1)) then self else (if nat_le (quorum n) (blank + backing) then Only opening else Nothing)) }
     {

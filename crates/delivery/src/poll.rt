@@ -13,8 +13,9 @@ use crate::set::BoardSet;
 use signer::Log;
 use std::marker::Model;
 
-// What one board accepts of a round: the entry of the opening, 0 where none is accepted; the boards with an accepted blank
-// ballot; and those with an accepted ballot for what the opening bears.
+/// What one board accepts of a round, by what it had heard when this was made: the entry of the opening, 0 where none is
+/// accepted; the boards with an accepted blank ballot; and those with an accepted ballot for what the opening bears. One made
+/// by hand says what its fields say.
 #[derive(Clone, Copy, Debug, PartialEq, Eq)]
 pub struct Tally {
     pub opening: u32,
@@ -23,14 +24,14 @@ pub struct Tally {
 }
 
 impl Tally {
-    // The boards with an accepted ballot, whatever it bears.
+    /// The boards with an accepted ballot, whatever it bears.
     pub fn ballots(&self) -> BoardSet
         ensures { result ≡ union self.now.blank self.now.backing }
     {
         self.blank.union(self.backing)
     }
 
-    // The boards whose accepted ballots bear a value.
+    /// The boards whose accepted ballots bear a value, 0 for the blank; none for a value that is not the opening's.
     #[tactic(auto, unfolding(crate::specs::Acceptance::bearers))]
     pub fn ballots_for(&self, value: u16) -> BoardSet
         ensures { result ≡ bearers self.now value }
@@ -140,7 +141,8 @@ impl<'a> Poll<'a> {
             .entry(coordinator, self.round.identifier(Phase::Opening))
     }
 
-    // What is allowed in the round: one pass over the rounds before it.
+    // What is allowed in the round: one pass over the rounds before it. It stays by itself, since whoever asks for it would
+    // else make room for its loop where there is nothing to ask.
     #[inline(never)]
     #[tactic(auto, using(crate::proofs::AllowanceLaws::allowance))]
     fn allowance(&self) -> Allowance
@@ -180,7 +182,8 @@ impl<'a> Poll<'a> {
         self.allowance().allows(Log::entry_of(value))
     }
 
-    // The entry of the round's opening where that is accepted; 0, which is none, where it is not.
+    /// The entry of the round's opening where that is accepted; 0, which is none, where it is not. By one pass over the rounds
+    /// before; no ballot of this round is looked at.
     #[inline(always)]
     #[tactic(auto, using(crate::proofs::AllRoundsLaws::openings))]
     pub fn opened(&self) -> u32
@@ -194,7 +197,8 @@ impl<'a> Poll<'a> {
         self.allowance().opened(opening)
     }
 
-    // What is accepted of the round: its opening, and the ballots.
+    /// What is accepted of the round: its opening, and the ballots. By one pass over the rounds before, and one look at each
+    /// ballot: whoever asks more than one thing of a round asks for this once, since the calls below each make the pass again.
     #[inline(always)]
     #[tactic(auto, using(crate::proofs::PollLaws::tallied))]
     pub fn tally(&self) -> Tally

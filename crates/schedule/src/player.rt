@@ -35,9 +35,9 @@ pub fn play_on(
     bench.play_on(events_of(count, events), answers)
 }
 
-// Plays so many events into a fresh bench, from the part of a file that begins with the first of them, and writes each
-// answer to its place in `answers`. A part that has fewer is played as `Bench::play` plays all its bytes. n and the marks stay
-// two arguments, as there (a rule of the project).
+/// Plays so many events into a fresh bench, from the part of a file that begins with the first of them, and writes each
+/// answer to its place in `answers`. A part that has fewer is played as `Bench::play` plays all its bytes. n and the marks stay
+/// two arguments, as there (a rule of the project).
 pub fn play(
     n: u8,
     marks: [u8; Bench::BOARDS as usize],

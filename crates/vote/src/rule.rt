@@ -48,7 +48,8 @@ impl Position {
     }
 
     // Stage C. The board may count once a quorum has ballots, and every board without one is suspected. By sets: tried as a
-    // chain over the boards, `(1..=n).all(..)`, whose proof did not close.
+    // chain over the boards, `(1..=n).all(..)`, whose proof did not close. It stays by itself, so that stages A and B make no
+    // room for it.
     #[inline(never)]
     #[tactic(auto, using(crate::proofs::RuleLaws::counts), unfolding(crate::specs::Rule::count_move, crate::specs::Rule::onward, crate::specs::Rule::next_estimate))]
     fn count_move(&self, n: u8, delivered: &Delivered) -> Move
@@ -61,7 +62,7 @@ impl Position {
             return Move::Waits;
         }
         let value = Log::value_of(tally.opening);
-        // only the opening's value has ballots, and the blank is none
+        // no value but the opening's has ballots, and the blank is no value
         let backing = if value == Log::BLANK {
             0
         } else {
