@@ -52,6 +52,11 @@ impl Text<'_> {
         requires { self.old.length + length (decimal m) ≤ longest_print limits }
         ensures { Puts (decimal m) self.old.out self.old.length self.new.out self.new.length }
     {
+        // most numbers here have one digit, and need no quotient
+        if m < 10 {
+            self.put(b'0' + m as u8);
+            return;
+        }
         let tens = m / 10;
         let hundreds = tens / 10;
         let thousands = hundreds / 10;
