@@ -14,7 +14,7 @@ use Rattle.std.proofs.lemmas.Bool.Decides.{nat_tests}
 use Rattle.std.proofs.lemmas.Fmt.{decimal_digit, decimal_step, length-decimal-le}
 use Rattle.std.proofs.lemmas.List.{take_more}
 use lib.Seq.{sets, length-sets, sets-eq, take-append_seam, take-add}
-use Rattle.std.specs.Prelude.{Ok, Err, decimal, if◌then◌else◌, nat_le, nat_lt}
+use Rattle.std.specs.Prelude.{Ok, Err, true, decimal, if◌then◌else◌, nat_le, nat_lt}
 use Rattle.std.proofs.lemmas.Bool.{cond-true}
 use Rattle.delivery.specs.Limits.{limits}
 use Rattle.bench.specs.declared.show.Shown.{Shown}
@@ -100,6 +100,15 @@ number-digits m f =
       one,
     )
     refl
+
+-- a number of two digits
+pub two-digits : (m : ℕ) → Fits w16 m → 10 ≤ m → m / 10 < 10
+    → decimal m ≡ ((48 + m / 10) ∷ []) ++ (48 + (m - 10 * (m / 10))) ∷ []
+unfolding front
+two-digits m f l h =
+    let one : m % 10 ≡ m - 10 * (m / 10) = omega arith in
+    let some : nat_le 1 (m / 10) ≡ true = grind (arith, nat_tests) in
+    front-last m f ∙ rw (some, decimal_digit (m / 10) h, one) refl
 
 pub length-digits : (m : ℕ) → Fits w16 m → length (decimal m)
     ≡ length (last_digit (m / 10 / 10 / 10 / 10)) + length (last_digit (m / 10 / 10 / 10)) + length (last_digit (m / 10 / 10))

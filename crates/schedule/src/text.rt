@@ -52,12 +52,17 @@ impl Text<'_> {
         requires { self.old.length + length (decimal m) ≤ longest_print limits }
         ensures { Puts (decimal m) self.old.out self.old.length self.new.out self.new.length }
     {
-        // most numbers here have one digit, and need no quotient
+        // most numbers here have one digit, and need no quotient, or two
         if m < 10 {
             self.put(b'0' + m as u8);
             return;
         }
         let tens = m / 10;
+        if tens < 10 {
+            self.put(b'0' + tens as u8);
+            self.put(b'0' + (m - 10 * tens) as u8);
+            return;
+        }
         let hundreds = tens / 10;
         let thousands = hundreds / 10;
         let rest = thousands / 10;
