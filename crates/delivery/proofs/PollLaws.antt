@@ -3,8 +3,8 @@ use Rattle.std.specs.Prelude.{◌==◌, ◌&&◌, ◌||◌, not}
 use Prim.Native.Nat.{ℕ, ◌≤◌, min, ◌<◌}
 use native.Mathlib.Omega.{arith}
 use mathlib.Core.Path.{◌≡◌, refl, sym, ◌∙◌}
-use mathlib.Core.Bool.{Bool, false}
-use mathlib.Core.Logic.{inl}
+use mathlib.Core.Bool.{Bool, false, true}
+use mathlib.Core.Logic.{◌⊎◌, inl, inr}
 use mathlib.Core.List.{List}
 use Rattle.std.proofs.lemmas.Bool.{false_from_ne_true}
 use Rattle.std.proofs.lemmas.Bool.Decides.{nat_tests}
@@ -82,6 +82,18 @@ module _ (L : Limits) (n : ℕ) (h : Store) (r : ℕ) where
   unfolding says
   backing-bears w e = rw e refl
 
+  -- asked of one value, with no tally: where its opening is accepted, and for the blank, all that bear it; else none
+  bearers-sent : (w : ℕ) → (w ≡ 0) ⊎ (accepts_opening L n h r w ≡ true)
+      → set_of n (backs L h r (entry_of w)) ≡ bearing w
+  unfolding backs says
+  bearers-sent w o = set-cong n _ _ (λ s a b. sym (ballot-sent L n h r s w o))
+
+  pub bearers-blank : (w : ℕ) → w ≡ 0 → set_of n (backs L h r (entry_of w)) ≡ bearing w
+  bearers-blank w e = bearers-sent w (inl e)
+
+  pub bearers-opened : (w : ℕ) → accepts_opening L n h r w ≡ true → set_of n (backs L h r (entry_of w)) ≡ bearing w
+  bearers-opened w o = bearers-sent w (inr o)
+
   -- so of the tally, the boards whose ballots bear a value are those whose accepted ballots do
   pub bearers-tallied : (w : ℕ) → bearers (tally_of L n h r) w ≡ bearing w
   unfolding bearers
@@ -129,6 +141,6 @@ pub ruleset scanning = (
 
 pub ruleset tallied = (blank-accepted, backing-accepted)
 
-pub ruleset backers = (bearers-tallied)
+pub ruleset backers = (bearers-blank, bearers-opened, set-none, ballot-unopened)
 
 pub ruleset joined = (ballots-tallied)

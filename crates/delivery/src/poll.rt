@@ -207,12 +207,13 @@ impl<'a> Poll<'a> {
         self.scan(self.opened()).tally
     }
 
-    // Whether the opening of the round with a value is accepted.
-    #[tactic(auto, using(crate::proofs::AllRoundsLaws::openings))]
+    // Whether the opening of the round with a value is accepted. For a value that the coordinator did not send there is no need
+    // of the pass.
+    #[tactic(auto, using(crate::proofs::AllRoundsLaws::allowed_blank), unfolding(crate::specs::Acceptance::accepts_opening, crate::specs::Acceptance::opens))]
     pub fn accepts_opening(&self, value: u16) -> bool
         ensures { result ≡ accepts_opening limits self.now.n (heard limits self.now.delivered) self.now.round value }
     {
-        self.opened() == Log::entry_of(value)
+        self.opening() == Log::entry_of(value) && self.allowed(value)
     }
 
     // Whether a speaker's ballot of the round with a value is accepted.
@@ -226,12 +227,16 @@ impl<'a> Poll<'a> {
         entry == Log::entry_of(value) && (value == Log::BLANK || self.accepts_opening(value))
     }
 
-    // The boards of 1 to n whose accepted ballots of the round bear a value.
+    // The boards of 1 to n whose accepted ballots of the round bear a value: by no pass for the blank, or for a value that the
+    // coordinator did not send.
     #[tactic(auto, using(crate::proofs::PollLaws::backers))]
     pub fn ballots_for(&self, value: u16) -> BoardSet
         ensures { result ≡ set_of self.now.n (λ (s : ℕ). accepts_ballot limits self.now.n (heard limits self.now.delivered) self.now.round s value) }
     {
-        self.tally().ballots_for(value)
+        if value == Log::BLANK || self.accepts_opening(value) {
+            return self.scan(Log::entry_of(value)).tally.backing;
+        }
+        BoardSet::empty()
     }
 
     // The boards of 1 to n with an accepted ballot of the round, whatever it bears.
