@@ -16,7 +16,7 @@ use bench::Bench;
 // What a file came to that was read and played: its boards, the answer to each event, and the bench after the last. The
 // answers and the bench are lent, since they are large, and stand once. `n` is the file's: that the bench still has it after
 // the events follows only from the laws of its whole history.
-#[derive(Drop)]
+#[derive(Clone, Copy)]
 pub struct Report<'a> {
     n: u8,
     answers: &'a [u8],
