@@ -11,13 +11,13 @@ use delivery::{BoardSet, Delivered, Owed};
 use signer::{Identifier, Signer, from_one};
 use vote::Board;
 
-// The boards of a bus, 1 to n, the sound ones among them, their signers, and the copies that are owed. The arrays are for as
-// many boards as there can be, with n beside them, and boards and signers stand apart: a bench has fixed memory and open
-// fields (rules of the project).
+// The boards of a bus, 1 to n, the sound ones among them as a mask (see `BoardSet`), their signers, and the copies that are
+// owed. The arrays are for as many boards as there can be, with n beside them, and boards and signers stand apart: a bench has
+// fixed memory and open fields (rules of the project).
 #[derive(Clone, Copy)]
 pub struct Bench {
     pub n: u8,
-    pub sound: BoardSet,
+    pub sound: u16,
     pub boards: [Board; Bench::BOARDS as usize],
     pub signers: [Signer; Bench::BOARDS as usize],
     pub owed: Owed,
@@ -31,7 +31,7 @@ impl Bench {
     pub fn is_sound(&self, k: u8) -> bool
         ensures { result ≡ is_sound self.now k }
     {
-        self.sound.contains(k)
+        BoardSet::from(self.sound).contains(k)
     }
 
     // Board k; a fresh one where the number is no board's.

@@ -12,7 +12,7 @@ ghost use Rattle.bench.specs.Private.{IsVoting, IsConvinced, announced};
 use crate::answer::Refusal;
 use crate::bench::Bench;
 use crate::event::{Event, Kind, Known};
-use delivery::{Delivered, Round};
+use delivery::{BoardSet, Delivered, Round};
 use signer::Identifier;
 use vote::{Board, Decision, Statement};
 
@@ -77,7 +77,7 @@ impl Bench {
     {
         let have = self.holders(s.speaker, s.id);
         self.owed
-            .record_delivery(k, s.speaker, s.id, self.sound, have);
+            .record_delivery(k, s.speaker, s.id, BoardSet::from(self.sound), have);
         self.change(k, |board| board.deliver(s));
     }
 

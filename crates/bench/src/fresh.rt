@@ -54,7 +54,7 @@ impl Bench {
     {
         Bench {
             n,
-            sound,
+            sound: sound.bits(),
             boards: [Board::fresh(); Bench::BOARDS as usize],
             signers: [Signer::fresh(); Bench::BOARDS as usize],
             owed: Owed::none(),

@@ -7,6 +7,7 @@ ghost use Rattle.bench.specs.Private.{IsVoting};
 
 use crate::answer::Refusal;
 use crate::bench::Bench;
+use delivery::BoardSet;
 use vote::Move;
 
 impl Bench {
@@ -30,7 +31,8 @@ impl Bench {
                 return Err(Refusal::MustWait);
             }
             let have = self.holders(k, s.id);
-            self.owed.record_signing(k, s.id, self.sound, have);
+            self.owed
+                .record_signing(k, s.id, BoardSet::from(self.sound), have);
         }
         self.change(k, |board| board.make(k, step));
         Ok(())

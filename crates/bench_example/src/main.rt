@@ -377,16 +377,18 @@ fn copies(rt: &HostRuntime) -> io::Result<()> {
 }
 
 // Board 1 opens round 1 with 700: what it has signed so, and what boards 1 and 2 have delivered of it. A log's entry is
-// one more than the value, and 0 where there is none.
+// one more than the value, and 0 where there is none. A bench is `Copy`, so the one of before is kept: the turn is taken twice on
+// it, and comes to the same.
 fn opening(rt: &HostRuntime) -> io::Result<()> {
     let bench = Bench::fresh(3, NONE).bench;
     let proposed = bench.event(Step::Propose(1, 700).event()).bench;
     let opened = proposed.event(Step::Turn(1).event()).bench;
+    let again = proposed.event(Step::Turn(1).event()).bench;
     let id = Identifier(1);
     println!(rt; "board 1 opens round 1 with 700")?;
     println!(rt; "signed {}", opened.signed(1, id))?;
-    println!(rt; "delivered by 1 {}", opened.delivered(1, 1, id))?;
-    println!(rt; "delivered by 2 {}", opened.delivered(2, 1, id))
+    println!(rt; "delivered by 1 {}", again.delivered(1, 1, id))?;
+    println!(rt; "delivered by 2 {}", again.delivered(2, 1, id))
 }
 
 // Lists that cannot be played: one event and a byte, and four events with room for three answers.

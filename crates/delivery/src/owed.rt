@@ -7,10 +7,10 @@ use crate::delivered::Delivered;
 use crate::set::BoardSet;
 use signer::{Identifier, from_one};
 
-// For one speaker: under each identifier, the set of boards to which a copy is owed.
+// For one speaker: under each identifier, the set of boards to which a copy is owed, as a mask (see `BoardSet`).
 #[derive(Clone, Copy)]
 pub struct Copies {
-    pub receivers: [BoardSet; Identifier::LAST as usize],
+    pub receivers: [u16; Identifier::LAST as usize],
 }
 
 // The copies that are owed, by speaker. A record for each, where `Delivered` has one array: the fields are open, so the
@@ -26,7 +26,7 @@ impl Copies {
         ensures { result ≡ no_copies limits }
     {
         Copies {
-            receivers: [BoardSet::empty(); Identifier::LAST as usize],
+            receivers: [0; Identifier::LAST as usize],
         }
     }
 
@@ -35,7 +35,7 @@ impl Copies {
     fn receivers(&self, id: Identifier) -> BoardSet
         ensures { result ≡ receivers_at self.now id.0 }
     {
-        from_one::nth(&self.receivers, id.0, BoardSet::empty())
+        BoardSet::from(from_one::nth(&self.receivers, id.0, 0))
     }
 
     // Puts this set under an identifier; a number that is none takes nothing.
@@ -43,7 +43,7 @@ impl Copies {
     fn set_receivers(&mut self, id: Identifier, set: BoardSet)
         ensures { self.new ≡ with_receivers_at self.old id.0 set }
     {
-        from_one::set_nth(&mut self.receivers, id.0, set);
+        from_one::set_nth(&mut self.receivers, id.0, set.bits());
     }
 }
 

@@ -7,7 +7,7 @@ ghost use Rattle.fenderacai.specs.Rows.{status_number, decision, board_words, bo
 ghost use Rattle.fenderacai.specs.Private.{board_size, table_size, row_size};
 
 use bench::Bench;
-use delivery::{BoardSet, Delivered, Owed, Round};
+use delivery::{Delivered, Owed, Round};
 use signer::Identifier;
 use vote::{Board, Decision, Status};
 
@@ -60,12 +60,12 @@ fn decision(status: Status) -> Decision
 }
 
 // Sets of boards, as words.
-fn masks(sets: &[BoardSet; Identifier::LAST as usize]) -> [u32; Identifier::LAST as usize]
+fn masks(sets: &[u16; Identifier::LAST as usize]) -> [u32; Identifier::LAST as usize]
     ensures { result ≡ sets.now }
 {
     let mut masks = [0; Identifier::LAST as usize];
     for i in 0..Identifier::LAST as usize {
-        masks[i] = sets[i].bits() as u32;
+        masks[i] = sets[i] as u32;
     }
     masks
 }
@@ -96,7 +96,7 @@ impl Words<'_> {
             board.position.round.0 as u32,
             board.position.estimate as u32,
             board.position.stage as u32,
-            board.position.suspected.bits() as u32,
+            board.position.suspected as u32,
             last.0 as u32,
         ]);
     }
@@ -146,7 +146,7 @@ impl Words<'_> {
         requires { self.old.length + row_size limits ≤ length self.old.out.now }
         ensures { Puts (row limits answer bench.now) self.old.out self.old.length self.new.out self.new.length }
     {
-        self.list(&[answer as u32, bench.n as u32, bench.sound.bits() as u32]);
+        self.list(&[answer as u32, bench.n as u32, bench.sound as u32]);
         self.boards(bench);
         self.signed(bench);
         self.delivered(bench);

@@ -8,7 +8,7 @@ ghost use Rattle.vote.specs.Announcements.{announce};
 
 use crate::position::Position;
 use crate::statement::Statement;
-use delivery::{Delivered, Round, bus};
+use delivery::{BoardSet, Delivered, Round, bus};
 use signer::Log;
 
 // What a board decided, and in which round.
@@ -107,7 +107,9 @@ impl Board {
     pub fn suspect(&mut self, k: u8)
         ensures { self.new ≡ suspect self.old k }
     {
-        self.position.suspected.insert(k);
+        let mut suspected = BoardSet::from(self.position.suspected);
+        suspected.insert(k);
+        self.position.suspected = suspected.bits();
     }
 
     // It no longer does.
@@ -115,7 +117,9 @@ impl Board {
     pub fn trust(&mut self, k: u8)
         ensures { self.new ≡ trust self.old k }
     {
-        self.position.suspected.remove(k);
+        let mut suspected = BoardSet::from(self.position.suspected);
+        suspected.remove(k);
+        self.position.suspected = suspected.bits();
     }
 
     // How many ballots of a round it accepts that bear a value. The two stay apart: this asks about the round's poll, and

@@ -1,7 +1,7 @@
 ghost use Rattle.std.specs.Prelude.{◌≡◌};
 ghost use Rattle.vote.specs.Boards.{fresh_position, starting_with};
 
-use delivery::{BoardSet, Round};
+use delivery::Round;
 
 // What a board does next in its round; document 01 calls these A, B and C.
 #[derive(Clone, Copy, Debug, PartialEq, Eq)]
@@ -11,13 +11,14 @@ pub enum Stage {
     Count,
 }
 
-// Where a board stands in the vote: what its next turn goes by, beside what it has delivered.
+// Where a board stands in the vote: what its next turn goes by, beside what it has delivered. Whom it suspects is a mask (see
+// `BoardSet`).
 #[derive(Clone, Copy, Debug, PartialEq, Eq)]
 pub struct Position {
     pub round: Round,
     pub estimate: u16,
     pub stage: Stage,
-    pub suspected: BoardSet,
+    pub suspected: u16,
 }
 
 impl Position {
@@ -30,7 +31,7 @@ impl Position {
             round: Round(0),
             estimate: 0,
             stage: Stage::Open,
-            suspected: BoardSet::empty(),
+            suspected: 0,
         }
     }
 

@@ -5,7 +5,7 @@ ghost use Rattle.vote.specs.Rule.{open_move, vote_move, count_move, rule};
 ghost use Rattle.vote.specs.Acts.{Acts, OfValues};
 
 use crate::position::{Position, Stage};
-use delivery::{Delivered, Round, bus};
+use delivery::{BoardSet, Delivered, Round, bus};
 use signer::Log;
 
 // What a board does in a turn: it waits; passes, not being coordinator; opens with its estimate; gives a ballot with a
@@ -41,7 +41,7 @@ impl Position {
     {
         let poll = delivered.poll(n, self.round);
         let coordinator = self.round.coordinator(n);
-        if poll.opening() == 0 && !self.suspected.contains(coordinator) {
+        if poll.opening() == 0 && !BoardSet::from(self.suspected).contains(coordinator) {
             return Move::Waits;
         }
         Move::Ballots(Log::value_of(poll.opened()))
@@ -57,7 +57,7 @@ impl Position {
     {
         let tally = delivered.poll(n, self.round).tally();
         let ballots = tally.ballots();
-        let present = ballots.union(self.suspected);
+        let present = ballots.union(BoardSet::from(self.suspected));
         if ballots.count(n) < bus::quorum(n) || present.count(n) != n {
             return Move::Waits;
         }

@@ -212,7 +212,7 @@ impl Seat {
             round: Round(250),
             estimate: 9,
             stage,
-            suspected: BoardSet::empty(),
+            suspected: 0,
         };
         let board = Board {
             position,

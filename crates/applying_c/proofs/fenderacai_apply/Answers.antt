@@ -32,8 +32,8 @@ returns-then-count-out-clause-buffer c =
     let out = c.args.out.now in
     let s = c.in-Ok.field-0 in
     let read = sym c.read.ensures.meaning ∙ c.in-Ok.is in
-    let begun : c.fresh-bench.result.bench ≡ fresh_bench limits s.bus.n s.bus.marks =
-    ap (λ (x : Fresh). x.bench) c.fresh-bench.ensures ∙ fresh-bench limits s.bus.n s.bus.marks in
+    let begun : c.fresh.result.bench ≡ fresh_bench limits s.bus.n s.bus.marks =
+    ap (λ (x : Fresh). x.bench) c.fresh.ensures ∙ fresh-bench limits s.bus.n s.bus.marks in
     let told : c.play.new.answers ≡ written (answered limits bs) out =
     rw (← taken-answered bs s read) (rw (begun, part_to_end bs s.start) at c.play.ensures) in
     let fits : length (answered limits bs) ≤ length out = omega (arith, length-answered bs s read, c.if-count-out.true) in

@@ -1,8 +1,8 @@
 -- `Bench::change` meets its contract: board k is the one at its index. Assumes nothing.
-use Prim.Native.Nat.{◌-◌}
+use Prim.Native.Nat.{◌≤◌}
 use native.Mathlib.Omega.{arith}
-use mathlib.Core.Path.{◌≡◌, refl}
-use lib.ListN.{length, get_or}
+use mathlib.Core.Path.{◌≡◌, refl, sym}
+use lib.ListN.{length}
 use borrow.Author.Rules.{rules}
 use Rattle.signer.proofs.FromOneLaws.{nth-any, within-high, within_low, set_nth-index}
 use Rattle.delivery.specs.Limits.{limits}
@@ -17,6 +17,7 @@ returns-then-is_board g c =
     let s = c.args.self.now in
     let k = c.args.k in
     let size : length s.boards ≡ limits.boards = search rules in
-    let at : get_or s.boards (k - 1) c.index-self-k.result ≡ board_at limits s k = grind (arith, nth-any, within_low, within-high) in
-    let made = told _ (record { shown = _; shows = at; left = _; met = c.change.ensures; leaves = refl }) in
+    let low : 1 ≤ k = grind (arith, within_low) in
+    let high : k ≤ length s.boards = grind (arith, within-high, size) in
+    let made = told _ (record { shown = _; shows = sym (nth-any s.boards k _ _ low high); left = _; met = c.change.ensures; leaves = refl }) in
     grind (arith, made, set_nth-index, within_low)

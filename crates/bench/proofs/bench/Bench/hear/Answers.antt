@@ -9,4 +9,4 @@ use Rattle.bench.proofs.bench.Bench.hear.Goals as goal
 
 pub returns : goal.returns
 unfolding after_hearing with_board_at with_owed board_at
-returns c = rw (c.change.ensures (λ b. deliver_to limits b c.args.s) (λ b told. search rules), c.record_delivery.ensures, c.holders-have.ensures) refl
+returns c = rw (c.change.ensures (λ b. deliver_to limits b c.args.s) (λ b told. search rules), c.record_delivery.ensures, c.from.ensures, c.holders-have.ensures) refl

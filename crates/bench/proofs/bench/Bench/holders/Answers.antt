@@ -17,8 +17,8 @@ loop-i-preserved c =
     let a = c.args in
     let i = c.loop-i in
     let size : length a.self.now.boards ≡ limits.boards = search rules in
-    let at = holds-at limits a.self.now a.speaker a.id.0 i.i c.board-item.result (omega arith) in
+    let at = holds-at limits a.self.now a.speaker a.id.0 i.i in
     record {
       within = omega arith;
-      passed = grind (arith, nat_tests, set-take i.i i.have, set-leave i.i i.have);
+      passed = grind (arith, nat_tests, at, set-take i.i i.have, set-leave i.i i.have);
     }

@@ -40,4 +40,4 @@ owed-requires c =
 pub returns : goal.returns
 unfolding row
 returns c =
-    ((((rw c.bits.ensures at c.list.ensures) then c.boards.ensures) then c.signed.ensures) then c.delivered.ensures) then c.owed.ensures
+    (((c.list.ensures then c.boards.ensures) then c.signed.ensures) then c.delivered.ensures) then c.owed.ensures
