@@ -70,7 +70,9 @@ fn masks(sets: &[u16; Identifier::LAST as usize]) -> [u32; Identifier::LAST as u
     masks
 }
 
-// Each of these puts some words after those that are there.
+// Each of these puts some words after those that are there. A row and the parts of it with tables are inlined, so that LLVM
+// sees that the buffer and the bench are apart: it then makes `memcpy` of a copy, and else `memmove`, which whoever links the
+// archive for C would have to bring as well (the gate's check `needs`).
 impl Words<'_> {
     // Words as they stand.
     fn list(&mut self, words: &[u32])
@@ -102,6 +104,7 @@ impl Words<'_> {
     }
 
     // Every board. It is handed out by value, since `Bench::board` gives one of any number (a rule of the project).
+    #[inline(always)]
     fn boards(&mut self, bench: &Bench)
         requires { self.old.length + limits.boards * board_size ≤ length self.old.out.now }
         ensures { Puts (boards_words limits bench.now) self.old.out self.old.length self.new.out self.new.length }
@@ -112,6 +115,7 @@ impl Words<'_> {
     }
 
     // What each board's signer signed: a log's entries stand as a row has them, so they are copied as a whole, here and below.
+    #[inline(always)]
     fn signed(&mut self, bench: &Bench)
         requires { self.old.length + table_size limits ≤ length self.old.out.now }
         ensures { Puts (table_words limits (signed_by limits bench.now)) self.old.out self.old.length self.new.out self.new.length }
@@ -122,6 +126,7 @@ impl Words<'_> {
     }
 
     // What each board delivered.
+    #[inline(always)]
     fn delivered(&mut self, bench: &Bench)
         requires { self.old.length + limits.boards * table_size limits ≤ length self.old.out.now }
         ensures { Puts (delivered_words limits bench.now) self.old.out self.old.length self.new.out self.new.length }
@@ -132,6 +137,7 @@ impl Words<'_> {
     }
 
     // The boards to which copies are owed.
+    #[inline(always)]
     fn owed(&mut self, owed: &Owed)
         requires { self.old.length + table_size limits ≤ length self.old.out.now }
         ensures { Puts (table_words limits (receivers limits owed.now)) self.old.out self.old.length self.new.out self.new.length }
@@ -142,6 +148,7 @@ impl Words<'_> {
     }
 
     // A row.
+    #[inline(always)]
     pub(crate) fn row(&mut self, answer: u8, bench: &Bench)
         requires { self.old.length + row_size limits ≤ length self.old.out.now }
         ensures { Puts (row limits answer bench.now) self.old.out self.old.length self.new.out self.new.length }
