@@ -1,9 +1,10 @@
--- `run` meets its contract: what was copied means what the whole file does. Assumes nothing.
+-- `run` meets its contract: what was read means what the whole file does. Assumes nothing.
 use mathlib.Core.Path.{ap, subst, ◌∙◌}
+use Rattle.std.proofs.Common.{rules}
 use Rattle.std.specs.Io.KnownBytes.{Appends}
 use Rattle.std.proofs.lemmas.Result.{on_ok_weaker}
 use Rattle.delivery.specs.Limits.{limits}
-use Rattle.schedule.specs.Prints.{printed_from, printed}
+use Rattle.schedule.specs.Prints.{printed_from}
 use Rattle.play.proofs.RunLaws.{whole-read}
 use Rattle.play.proofs.run.Goals as goal
 
@@ -13,19 +14,11 @@ returns-clause-written g c =
     c.write_all.result
     (λ bytes.
     whole-read
-    (g.R.Read.remaining c.take.result.inner.now)
     (g.R.Read.remaining c.args.reader.now)
     _
-    c.copy.new.writer.items
     _
-    (ap (λ r. g.R.Read.remaining r.now) c.take.ensures.inner)
-    c.new-file.ensures
-    c.take.ensures.limit
-    c.in_ok-copy.ensures.bytes
+    (search rules)
+    c.in_ok-read.ensures.read
     _
-    (λ file e.
-    subst
-    (Appends _ _)
-    (c.print-length.ensures.text ∙ ap (printed limits) c.deref.ensures.0 ∙ ap (printed_from limits) e)
-    bytes))
+    (λ file e. subst (Appends _ _) (c.print-length.ensures.text ∙ ap (printed_from limits) e) bytes))
     c.write_all.ensures.bytes
