@@ -7,8 +7,8 @@ use std::marker::Model;
 
 // A set of boards, as a mask: bit k - 1 stands for board k. In contracts it is the mask's number. Of the mask, `bits`
 // gives all bits at once, as a number, and `BITS` says how many they are.
-// A struct keeps the mask itself in its field, and no `BoardSet`: today's check lets a struct that holds a type with a model be
-// handed on by value once alone, though it is `Copy`, and whoever calls with a board or a bench may keep the one of before.
+// What callers keep, as a board or a bench, has the mask itself in its field, and no `BoardSet`: today's check lets a struct that
+// holds a type with a model be handed on by value once alone, though it is `Copy`. A `Tally` has sets, and is lent.
 #[derive(Clone, Copy, Debug, PartialEq, Eq)]
 pub struct BoardSet {
     mask: u16,
