@@ -4,7 +4,7 @@ use Prim.Native.Nat.{ℕ, ◌≤◌, min, ◌<◌}
 use native.Mathlib.Omega.{arith}
 use mathlib.Core.Path.{◌≡◌, refl, sym, ◌∙◌}
 use mathlib.Core.Bool.{Bool, false, true}
-use mathlib.Core.Logic.{◌⊎◌, inl, inr}
+use mathlib.Core.Logic.{inl, inr}
 use mathlib.Core.List.{List}
 use Rattle.std.proofs.lemmas.Bool.{false_from_ne_true}
 use Rattle.std.proofs.lemmas.Bool.Decides.{nat_tests}
@@ -15,7 +15,8 @@ use Rattle.delivery.specs.Bus.{is_board}
 use Rattle.delivery.specs.Rounds.{identifier_of}
 use Rattle.delivery.specs.Sets.{set_of, bits, union}
 use Rattle.delivery.specs.Delivered.{Store, heard_in}
-use Rattle.delivery.specs.Acceptance.{says, ballot_entry, bears, backs, counts, counts_some, accepts_opening, accepts_ballot, accepts_some, opened_entry, tally_of, bearers}
+use Rattle.delivery.specs.Acceptance.{says, opening_entry, ballot_entry, bears, backs, opens, counts, counts_some, accepts_opening, accepts_ballot, accepts_some, opened_entry, tally_of, bearers}
+use Rattle.delivery.specs.declared.poll.Tally.{Tally}
 use Rattle.delivery.specs.declared.round.Phase.TheVariants.{Ballot}
 use Rattle.signer.proofs.FromOneLaws.{within-high}
 use Rattle.delivery.proofs.CountLaws.{count-le, count-take, count-leave, count_beyond}
@@ -82,17 +83,27 @@ module _ (L : Limits) (n : ℕ) (h : Store) (r : ℕ) where
   unfolding says
   backing-bears w e = rw e refl
 
-  -- asked of one value, with no tally: where its opening is accepted, and for the blank, all that bear it; else none
-  bearers-sent : (w : ℕ) → (w ≡ 0) ⊎ (accepts_opening L n h r w ≡ true)
-      → set_of n (backs L h r (entry_of w)) ≡ bearing w
-  unfolding backs says
-  bearers-sent w o = set-cong n _ _ (λ s a b. sym (ballot-sent L n h r s w o))
+  -- asked of one value: the same is found by what the coordinator sent, with 0 in its place where that is w and not accepted
+  abbrev scanned : ℕ → Tally
+  scanned x = record { opening = x; blank = set_of n (bears L h r 0); backing = set_of n (backs L h r x) }
 
-  pub bearers-blank : (w : ℕ) → w ≡ 0 → set_of n (backs L h r (entry_of w)) ≡ bearing w
-  bearers-blank w e = bearers-sent w (inl e)
+  unsent : (w : ℕ) → accepts_opening L n h r w ≡ false → (w ≡ 0 → ⊥) → bearing w ≡ 0
+  unsent w f z = set-none n (λ (s : ℕ). accepts_ballot L n h r s w) (λ s a b. ballot-unopened L n h r s w z f)
 
-  pub bearers-opened : (w : ℕ) → accepts_opening L n h r w ≡ true → set_of n (backs L h r (entry_of w)) ≡ bearing w
-  bearers-opened w o = bearers-sent w (inr o)
+  pub bearers-other : (w : ℕ) → (opening_entry L n h r ≡ entry_of w → ⊥) → bearers (scanned (opening_entry L n h r)) w ≡ bearing w
+  unfolding bearers accepts_opening opens
+  bearers-other w d = grind (arith, nat_tests, unsent w, blank-accepted)
+
+  pub bearers-unsent : (w : ℕ) → accepts_opening L n h r w ≡ false → bearers (scanned 0) w ≡ bearing w
+  unfolding bearers
+  bearers-unsent w f = grind (arith, nat_tests, unsent w f, blank-accepted)
+
+  pub bearers-sent : (w : ℕ) → opening_entry L n h r ≡ entry_of w → accepts_opening L n h r w ≡ true
+      → bearers (scanned (opening_entry L n h r)) w ≡ bearing w
+  unfolding bearers backs says
+  bearers-sent w e o =
+      let sent = set-cong n (bears L h r w) _ (λ s a b. sym (ballot-sent L n h r s w (inr o))) in
+      grind (arith, nat_tests, e, sent, blank-accepted)
 
   -- so of the tally, the boards whose ballots bear a value are those whose accepted ballots do
   pub bearers-tallied : (w : ℕ) → bearers (tally_of L n h r) w ≡ bearing w
@@ -141,6 +152,6 @@ pub ruleset scanning = (
 
 pub ruleset tallied = (blank-accepted, backing-accepted)
 
-pub ruleset backers = (bearers-blank, bearers-opened, set-none, ballot-unopened)
+pub ruleset backers = (bearers-other, bearers-unsent, bearers-sent)
 
 pub ruleset joined = (ballots-tallied)

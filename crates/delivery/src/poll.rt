@@ -233,10 +233,11 @@ impl<'a> Poll<'a> {
     pub fn ballots_for(&self, value: u16) -> BoardSet
         ensures { result ≡ set_of self.now.n (λ (s : ℕ). accepts_ballot limits self.now.n (heard limits self.now.delivered) self.now.round s value) }
     {
-        if value == Log::BLANK || self.accepts_opening(value) {
-            return self.scan(Log::entry_of(value)).tally.backing;
+        let mut opening = self.opening();
+        if opening == Log::entry_of(value) && !self.accepts_opening(value) {
+            opening = 0;
         }
-        BoardSet::empty()
+        self.scan(opening).tally.ballots_for(value)
     }
 
     // The boards of 1 to n with an accepted ballot of the round, whatever it bears.
